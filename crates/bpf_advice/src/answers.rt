@@ -3,7 +3,7 @@
 use std::alloc::AllocError;
 
 /// What is known of an error that a helper answers.
-const ERRORS: [(u64, &str, &str); 6] = [
+static ERRORS: [(u64, &str, &str); 6] = [
     (
         2,
         "ENOENT",

@@ -160,7 +160,7 @@ fn hint_of_job(
 }
 
 /// How the lines begin that give names.
-const KINDS: [&str; 3] = ["map", "array", "var"];
+static KINDS: [&str; 3] = ["map", "array", "var"];
 
 /// What a kind of line is called.
 fn kind_text(kind: &str) -> &'static str {

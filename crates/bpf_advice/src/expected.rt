@@ -15,7 +15,7 @@ pub struct Expectation {
 /// The forms of lines. Pieces are between blanks: `NAME`, `N` and `HEX` are a name, a number and
 /// hex digits, any other is itself. The last 34 are of version 3 alone, and the two before
 /// them of version 2 too.
-const FORMS: [&str; 46] = [
+static FORMS: [&str; 46] = [
     "cpus N",
     "seed N",
     "map NAME key N value N max N spare N",
@@ -129,7 +129,7 @@ fn pieces_expected(
     words: &[&str],
 ) -> Result<Option<(usize, Vec<&'static str>)>, AllocError> {
     let mut most: usize = 0;
-    for form in FORMS.into_iter().take(forms) {
+    for form in FORMS.iter().copied().take(forms) {
         let count = fitting(form, words);
         if count == words.len() && piece_at(form, count).is_empty() {
             return Ok(None);
@@ -137,7 +137,7 @@ fn pieces_expected(
         most = most.max(count);
     }
     let mut pieces: Vec<&'static str> = Vec::new(alloc);
-    for form in FORMS.into_iter().take(forms) {
+    for form in FORMS.iter().copied().take(forms) {
         let piece = piece_at(form, most);
         if fitting(form, words) == most && !pieces.iter().any(|other| *other == piece) {
             pieces.push(piece)?;

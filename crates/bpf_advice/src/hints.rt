@@ -28,7 +28,7 @@ const REGISTERS: &str =
 const RUN_FILE: &str = "this looks like a run file: `ebpf run FILE` takes it";
 
 /// First words of instructions, and what may be meant.
-const FIRST_WORDS: [(&str, &str); 17] = [
+static FIRST_WORDS: [(&str, &str); 17] = [
     (
         "mov mov32 movl movq movabs add add32 sub sub32 mul imul div mod or and xor lsh rsh arsh shl shr sar neg not",
         AS_IN_C,
@@ -82,7 +82,7 @@ const FIRST_WORDS: [(&str, &str); 17] = [
 ];
 
 /// What is there where no form goes on, and what may be meant.
-const FRONTS: [(&str, &str); 30] = [
+static FRONTS: [(&str, &str); 30] = [
     ("//", COMMENT),
     ("/*", COMMENT),
     ("#", COMMENT),
@@ -122,7 +122,7 @@ const FRONTS: [(&str, &str); 30] = [
 ];
 
 /// What a line has, and what may be meant.
-const PIECES: [(&str, &str); 8] = [
+static PIECES: [(&str, &str); 8] = [
     ("pc+", "a jump's distance is one word: `goto +3`, `goto -3`"),
     ("pc-", "a jump's distance is one word: `goto +3`, `goto -3`"),
     (

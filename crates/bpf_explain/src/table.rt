@@ -10,7 +10,7 @@ use bpf_codes::Code;
 macro_rules! page {
     ($of:expr; $($file:ident: $($code:ident)+;)+) => {
         match $of {
-            $($(Code::$code => $file::$code,)+)+
+            $($(Code::$code => &$file::$code,)+)+
         }
     };
 }
@@ -19,7 +19,7 @@ macro_rules! page {
 pub fn page_of(code: Code) -> Page
     ensures { result.code ≡ code }
 {
-    page! {
+    *page! {
         code;
         text: A1 A2 A3 A4 A5 A6 H1;
         program: E1 E2 E3 E4 E5 E6 E7 E8 E9 E10 E11 E12 E13 E14;

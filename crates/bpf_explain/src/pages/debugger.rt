@@ -3,7 +3,7 @@
 use crate::page::{Example, Page};
 use bpf_codes::Code;
 
-pub const G1: Page = Page {
+pub static G1: Page = Page {
     code: Code::G1,
     meaning: "there is no CPU of this number",
     example: Some(Example {
@@ -14,7 +14,7 @@ pub const G1: Page = Page {
 A run file has the CPUs 0 to `cpus` less 1; without that line it has CPU 0.",
 };
 
-pub const G2: Page = Page {
+pub static G2: Page = Page {
     code: Code::G2,
     meaning: "no program has an instruction that begins at this pc",
     example: Some(Example {
@@ -25,7 +25,7 @@ pub const G2: Page = Page {
 A pc counts words, and a wide instruction has two.",
 };
 
-pub const G3: Page = Page {
+pub static G3: Page = Page {
     code: Code::G3,
     meaning: "no map, array or variable of this name can be named here",
     example: Some(Example {
@@ -39,7 +39,7 @@ takes a variable, and so does `watch` with a name alone. `--sync` of `ebpf
 explore --races` takes a map, bytes that its values have, or a variable.",
 };
 
-pub const G4: Page = Page {
+pub static G4: Page = Page {
     code: Code::G4,
     meaning: "not a command of the debugger",
     example: Some(Example {
@@ -51,7 +51,7 @@ The first word is none, there are too few words or too many, or a number isn't
 one; `mem` shows 1 to 256 bytes.",
 };
 
-pub const G5: Page = Page {
+pub static G5: Page = Page {
     code: Code::G5,
     meaning: "no memory for a command of the debugger",
     example: None,

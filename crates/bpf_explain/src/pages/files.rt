@@ -3,7 +3,7 @@
 use crate::page::{Example, Page};
 use bpf_codes::Code;
 
-pub const L1: Page = Page {
+pub static L1: Page = Page {
     code: Code::L1,
     meaning: "the first line of the run file is none of `ebpf-run 1`, `ebpf-run 2` and `ebpf-run 3`",
     example: Some(Example {
@@ -14,7 +14,7 @@ pub const L1: Page = Page {
 Empty lines and comments may come before it.",
 };
 
-pub const L2: Page = Page {
+pub static L2: Page = Page {
     code: Code::L2,
     meaning: "a line of the run file has none of its forms, is out of order, or is one too \
         many",
@@ -32,7 +32,7 @@ are of `ebpf-run 3`.
 docs/reference/run-files.md has every form.",
 };
 
-pub const L3: Page = Page {
+pub static L3: Page = Page {
     code: Code::L3,
     meaning: "a number of the line is out of its range",
     example: Some(Example {
@@ -45,7 +45,7 @@ of CPUs 32; a budget is at most 1,000,000,000. A variable has 1, 2, 4 or 8 bytes
 begins at a multiple of them.",
 };
 
-pub const L4: Page = Page {
+pub static L4: Page = Page {
     code: Code::L4,
     meaning: "a map, an array, a variable or a program of this name was given before",
     example: Some(Example {
@@ -58,7 +58,7 @@ A program may have the name of a map, an array or a variable; no two of these
 have one name.",
 };
 
-pub const L5: Page = Page {
+pub static L5: Page = Page {
     code: Code::L5,
     meaning: "the job's CPU or program, or the array or map of a `data`, `var` or `put` line, isn't \
         there",
@@ -70,7 +70,7 @@ pub const L5: Page = Page {
 CPUs are numbered from 0; without a line `cpus N` there is one.",
 };
 
-pub const L6: Page = Page {
+pub static L6: Page = Page {
     code: Code::L6,
     meaning: "the program that begins at this line has no `end`",
     example: Some(Example {
@@ -82,7 +82,7 @@ After its assembly a program has a line `end`; one given by `hex` has none, its
 digits are on its own line.",
 };
 
-pub const L7: Page = Page {
+pub static L7: Page = Page {
     code: Code::L7,
     meaning: "the input couldn't be read to its end",
     example: Some(Example {
@@ -94,7 +94,7 @@ It is a folder, a FILE that isn't there or that you may not read, or a disk that
 says which. A failed read isn't tried again.",
 };
 
-pub const L8: Page = Page {
+pub static L8: Page = Page {
     code: Code::L8,
     meaning: "the input isn't UTF-8",
     example: Some(Example {
@@ -105,7 +105,7 @@ pub const L8: Page = Page {
 Words come as hex digits and not as bytes: `xxd -p` makes digits of a file.",
 };
 
-pub const L9: Page = Page {
+pub static L9: Page = Page {
     code: Code::L9,
     meaning: "no memory for the input, the command line, the CPU or the answer",
     example: None,
@@ -113,7 +113,7 @@ pub const L9: Page = Page {
 Try again when other programs have ended, or raise the limit (ulimit -v).",
 };
 
-pub const L10: Page = Page {
+pub static L10: Page = Page {
     code: Code::L10,
     meaning: "more than 16,777,216 bytes of input",
     example: Some(Example {
@@ -125,7 +125,7 @@ The longest program has 65,536 words, which are 1,114,112 bytes as lines of hex
 digits.",
 };
 
-pub const L11: Page = Page {
+pub static L11: Page = Page {
     code: Code::L11,
     meaning: "the comment of this line expects what no outcome can have, or asks for no search",
     example: Some(Example {
@@ -146,7 +146,7 @@ Or it begins with `check patient` or `check limit`, or words one edit away, and 
 `check --lenient` passes such comments over.",
 };
 
-pub const S1: Page = Page {
+pub static S1: Page = Page {
     code: Code::S1,
     meaning: "a map's keys have 1 to 64 bytes",
     example: Some(Example {
@@ -157,7 +157,7 @@ pub const S1: Page = Page {
 To key by more, hash it first; a map of one value has a key of one byte, 0.",
 };
 
-pub const S2: Page = Page {
+pub static S2: Page = Page {
     code: Code::S2,
     meaning: "a map's values have 1 to 256 bytes",
     example: Some(Example {
@@ -168,7 +168,7 @@ pub const S2: Page = Page {
 Part a longer value over several maps, or over several keys of one.",
 };
 
-pub const S3: Page = Page {
+pub static S3: Page = Page {
     code: Code::S3,
     meaning: "a map has room for 1 to 65,536 keys",
     example: Some(Example {
@@ -179,7 +179,7 @@ pub const S3: Page = Page {
 `max` is how many keys the map holds at a time.",
 };
 
-pub const S4: Page = Page {
+pub static S4: Page = Page {
     code: Code::S4,
     meaning: "a map has at most 65,536 spare elements",
     example: Some(Example {
@@ -191,7 +191,7 @@ Spare elements are what values that were replaced or deleted stay in while a
 program may still hold them.",
 };
 
-pub const S5: Page = Page {
+pub static S5: Page = Page {
     code: Code::S5,
     meaning: "there are at most 16 maps",
     example: Some(Example {
@@ -203,7 +203,7 @@ Two maps of one shape can be one whose key has a byte more that keeps them
 apart.",
 };
 
-pub const S6: Page = Page {
+pub static S6: Page = Page {
     code: Code::S6,
     meaning: "there are 1 to 16 CPUs",
     example: Some(Example {
@@ -214,7 +214,7 @@ pub const S6: Page = Page {
 One CPU takes as many jobs as wanted, one after the other.",
 };
 
-pub const S7: Page = Page {
+pub static S7: Page = Page {
     code: Code::S7,
     meaning: "no memory for a store of this shape",
     example: None,
@@ -223,7 +223,7 @@ A crate that makes a store gets it. `ebpf` prints L9 instead: it lacked memory
 for the whole command.",
 };
 
-pub const S8: Page = Page {
+pub static S8: Page = Page {
     code: Code::S8,
     meaning: "an array's values have 1 to 65,536 bytes",
     example: None,
@@ -231,7 +231,7 @@ pub const S8: Page = Page {
 Part a longer value over several arrays, or over several indices of one.",
 };
 
-pub const S9: Page = Page {
+pub static S9: Page = Page {
     code: Code::S9,
     meaning: "an array has 1 to 65,536 values",
     example: None,
@@ -239,7 +239,7 @@ pub const S9: Page = Page {
 `max` is how many values the array has. An index is below it.",
 };
 
-pub const S10: Page = Page {
+pub static S10: Page = Page {
     code: Code::S10,
     meaning: "an array takes at most 16 MiB",
     example: None,
@@ -248,7 +248,7 @@ A value takes its size, rounded up to a multiple of 8. An array has `max` of
 them, and one that is `percpu` has as many for each CPU.",
 };
 
-pub const S11: Page = Page {
+pub static S11: Page = Page {
     code: Code::S11,
     meaning: "there are at most 16 arrays",
     example: None,
@@ -256,7 +256,7 @@ pub const S11: Page = Page {
 Two arrays of one value can be one whose value has the bytes of both.",
 };
 
-pub const S12: Page = Page {
+pub static S12: Page = Page {
     code: Code::S12,
     meaning: "what a map or an array has at first fits it, and a variable an array's first value",
     example: Some(Example {

@@ -3,7 +3,7 @@
 use crate::page::{Example, Page};
 use bpf_codes::Code;
 
-pub const E1: Page = Page {
+pub static E1: Page = Page {
     code: Code::E1,
     meaning: "a program of no instructions",
     example: Some(Example {
@@ -14,7 +14,7 @@ pub const E1: Page = Page {
 A program has 1 to 65,536 words. In a run file: lines of assembly before `end`.",
 };
 
-pub const E2: Page = Page {
+pub static E2: Page = Page {
     code: Code::E2,
     meaning: "n bytes, which are not whole words",
     example: Some(Example {
@@ -25,7 +25,7 @@ pub const E2: Page = Page {
 A word is 8 bytes, 16 hex digits. The number is that of the bytes found.",
 };
 
-pub const E3: Page = Page {
+pub static E3: Page = Page {
     code: Code::E3,
     meaning: "more than 65,536 words",
     example: Some(Example {
@@ -36,7 +36,7 @@ pub const E3: Page = Page {
 A wide instruction (`r1 = 5 ll`, `r1 = map 0`) has two words.",
 };
 
-pub const E4: Page = Page {
+pub static E4: Page = Page {
     code: Code::E4,
     meaning: "an opcode that RFC 9669 doesn't have, or a row that this machine doesn't take",
     example: Some(Example {
@@ -49,7 +49,7 @@ calls by BTF id, and of the wide loads those of map values, variables, code
 addresses and maps by index aren't taken.",
 };
 
-pub const E5: Page = Page {
+pub static E5: Page = Page {
     code: Code::E5,
     meaning: "a field that this instruction has no use for isn't zero",
     example: Some(Example {
@@ -61,7 +61,7 @@ RFC 9669 wants unused fields to be zero: here the offset is 1, where a move has
 none.",
 };
 
-pub const E6: Page = Page {
+pub static E6: Page = Page {
     code: Code::E6,
     meaning: "the second word of a wide instruction is missing",
     example: Some(Example {
@@ -73,7 +73,7 @@ After the first word of a 64-bit constant comes one with opcode 0, whose
 immediate is the upper half.",
 };
 
-pub const E7: Page = Page {
+pub static E7: Page = Page {
     code: Code::E7,
     meaning: "there is no register of this number: the last is R10",
     example: Some(Example {
@@ -85,7 +85,7 @@ A word's second byte has the destination in its low half and the source in its
 upper half, each from 0 to 10.",
 };
 
-pub const E8: Page = Page {
+pub static E8: Page = Page {
     code: Code::E8,
     meaning: "it writes R10, which only calls change",
     example: Some(Example {
@@ -97,7 +97,7 @@ R10 is the top of the frame, 512 bytes of stack below it. Copy it first:
 `r2 = r10`, then `r2 += -8`.",
 };
 
-pub const E9: Page = Page {
+pub static E9: Page = Page {
     code: Code::E9,
     meaning: "it jumps out of the program",
     example: Some(Example {
@@ -108,7 +108,7 @@ pub const E9: Page = Page {
 A distance counts words from the next instruction on; a label counts for you.",
 };
 
-pub const E10: Page = Page {
+pub static E10: Page = Page {
     code: Code::E10,
     meaning: "it jumps to the second word of a wide instruction",
     example: Some(Example {
@@ -120,7 +120,7 @@ A wide instruction counts two words: jump to its first, or past both. A label
 counts for you.",
 };
 
-pub const E11: Page = Page {
+pub static E11: Page = Page {
     code: Code::E11,
     meaning: "the program could run on past its last instruction",
     example: Some(Example {
@@ -132,7 +132,7 @@ The last instruction is `exit`, or a jump that has no condition. The number is
 that instruction's place.",
 };
 
-pub const E12: Page = Page {
+pub static E12: Page = Page {
     code: Code::E12,
     meaning: "a helper that this machine doesn't have",
     example: Some(Example {
@@ -146,7 +146,7 @@ number), 14 and 15 (process and user), 93 and 94 (locks). A call of a function
 of the program is `call +4` or `call NAME`.",
 };
 
-pub const E13: Page = Page {
+pub static E13: Page = Page {
     code: Code::E13,
     meaning: "a map that the program wasn't given; `hex` gives none",
     example: Some(Example {
@@ -158,7 +158,7 @@ Maps are given by a run file, which numbers them from 0 in its order, and
 arrays from 16 on: `ebpf run`.",
 };
 
-pub const E14: Page = Page {
+pub static E14: Page = Page {
     code: Code::E14,
     meaning: "no memory for the program",
     example: None,

@@ -3,7 +3,7 @@
 use crate::page::{Example, Page};
 use bpf_codes::Code;
 
-pub const F1: Page = Page {
+pub static F1: Page = Page {
     code: Code::F1,
     meaning: "the bytes that are loaded or stored lie in no area of the program's memory",
     example: Some(Example {
@@ -18,7 +18,7 @@ before you use it: it is 0 where the key isn't there. A helper's key and value
 have to lie in such an area too.",
 };
 
-pub const F2: Page = Page {
+pub static F2: Page = Page {
     code: Code::F2,
     meaning: "the address of an atomic operation isn't a multiple of its size",
     example: Some(Example {
@@ -29,7 +29,7 @@ pub const F2: Page = Page {
 In a value of a map the same holds of loads and stores.",
 };
 
-pub const F3: Page = Page {
+pub static F3: Page = Page {
     code: Code::F3,
     meaning: "a call when 8 frames are in use",
     example: Some(Example {
@@ -41,7 +41,7 @@ A call takes a frame of 512 bytes until its `exit`. Recurse less deeply, or
 write a loop.",
 };
 
-pub const F4: Page = Page {
+pub static F4: Page = Page {
     code: Code::F4,
     meaning: "a helper was given something else than a map",
     example: Some(Example {
@@ -52,7 +52,7 @@ pub const F4: Page = Page {
 R1 has to hold a map, as `r1 = map 0` puts it there.",
 };
 
-pub const F5: Page = Page {
+pub static F5: Page = Page {
     code: Code::F5,
     meaning: "the program would hold more than 256 values",
     example: None,
@@ -61,7 +61,7 @@ A program holds each value that its lookups found, until it ends: a value's
 place isn't used again before. It may hold 256 different ones.",
 };
 
-pub const F6: Page = Page {
+pub static F6: Page = Page {
     code: Code::F6,
     meaning: "the store's counter of this CPU's runs is used up",
     example: None,
@@ -69,7 +69,7 @@ pub const F6: Page = Page {
 A CPU makes at most 2^63 - 1 runs over one store.",
 };
 
-pub const F7: Page = Page {
+pub static F7: Page = Page {
     code: Code::F7,
     meaning: "a store to a value that may only be read",
     example: None,

@@ -3,7 +3,7 @@
 use crate::page::{Example, Page};
 use bpf_codes::Code;
 
-pub const X1: Page = Page {
+pub static X1: Page = Page {
     code: Code::X1,
     meaning: "a line is no state of the file's jobs",
     example: Some(Example {

@@ -3,7 +3,7 @@
 use crate::definition::Definition;
 use crate::term::Term;
 
-pub const ENOENT: Definition = Definition {
+pub static ENOENT: Definition = Definition {
     term: Term::Enoent,
     meaning: "the key isn't there, error 2",
     advice: "\
@@ -11,7 +11,7 @@ R0 is -2, which is printed as 18446744073709551614. `update` answers it with
 the flags 2 (BPF_EXIST), and `delete` without more. Nothing is changed.",
 };
 
-pub const E2BIG: Definition = Definition {
+pub static E2BIG: Definition = Definition {
     term: Term::TooBig,
     meaning: "the map has its greatest number of keys, or the array no such index, error 7",
     advice: "\
@@ -20,7 +20,7 @@ new key where the map has as many keys as its line says after `max`, and to an
 index of an array that isn't below its `max`. Nothing is changed.",
 };
 
-pub const ENOMEM: Definition = Definition {
+pub static ENOMEM: Definition = Definition {
     term: Term::Enomem,
     meaning: "the map has no free element, error 12",
     advice: "\
@@ -32,7 +32,7 @@ line says behind `spare`. To change a value in place, look it up and store to
 it, or add by `lock`. Nothing is changed by the call that answers this.",
 };
 
-pub const EBUSY: Definition = Definition {
+pub static EBUSY: Definition = Definition {
     term: Term::Ebusy,
     meaning: "the key's part of the map was changed too often, error 16",
     advice: "\
@@ -40,7 +40,7 @@ R0 is -16, which is printed as 18446744073709551600. It comes on worker threads
 alone, once the segment of the key was changed 2^56 - 1 times.",
 };
 
-pub const EEXIST: Definition = Definition {
+pub static EEXIST: Definition = Definition {
     term: Term::Eexist,
     meaning: "the key is there already, error 17",
     advice: "\
@@ -50,7 +50,7 @@ Look the key up again. The indices of an array are there from the first on.
 Nothing is changed.",
 };
 
-pub const EINVAL: Definition = Definition {
+pub static EINVAL: Definition = Definition {
     term: Term::Einval,
     meaning: "the flags aren't 0, 1 or 2, or an array was to lose a key, error 22",
     advice: "\
@@ -60,7 +60,7 @@ helper, and has to be set again where it isn't to be 0. `delete` answers it to
 each key of an array. Nothing is changed.",
 };
 
-pub const EPERM: Definition = Definition {
+pub static EPERM: Definition = Definition {
     term: Term::Eperm,
     meaning: "the array may only be read, error 1",
     advice: "\
@@ -69,7 +69,7 @@ key of an array that is `frozen`. A store to a value of such an array is F7.
 Nothing is changed.",
 };
 
-pub const ANY: Definition = Definition {
+pub static ANY: Definition = Definition {
     term: Term::Any,
     meaning: "flags of `update`: 0, insert the key or replace its value",
     advice: "\
@@ -77,21 +77,21 @@ They are in R4. With 1 (BPF_NOEXIST) it only inserts, with 2 (BPF_EXIST) it
 only replaces.",
 };
 
-pub const NO_EXIST: Definition = Definition {
+pub static NO_EXIST: Definition = Definition {
     term: Term::NoExist,
     meaning: "flags of `update`: 1, insert the key, and answer EEXIST where it is there",
     advice: "\
 They are in R4. Of several CPUs that insert one key so, one is answered 0.",
 };
 
-pub const EXIST: Definition = Definition {
+pub static EXIST: Definition = Definition {
     term: Term::Exist,
     meaning: "flags of `update`: 2, replace the value, and answer ENOENT where the key is absent",
     advice: "\
 They are in R4.",
 };
 
-pub const LOOKUP: Definition = Definition {
+pub static LOOKUP: Definition = Definition {
     term: Term::Lookup,
     meaning: "helper 1, `call lookup`: the address of a key's value",
     advice: "\
@@ -103,7 +103,7 @@ first; of one that is `percpu` the value is that of the CPU that asks. R1 to R5
 are 0 afterwards.",
 };
 
-pub const UPDATE: Definition = Definition {
+pub static UPDATE: Definition = Definition {
     term: Term::Update,
     meaning: "helper 2, `call update`: a key gets a new value",
     advice: "\
@@ -115,7 +115,7 @@ own; who holds the old one goes on seeing the old one. In an array the bytes are
 stored over the old ones, by words. R1 to R5 are 0 afterwards.",
 };
 
-pub const DELETE: Definition = Definition {
+pub static DELETE: Definition = Definition {
     term: Term::Delete,
     meaning: "helper 3, `call delete`: a key is taken out of a map",
     advice: "\
@@ -124,14 +124,14 @@ ENOENT where the key isn't there, or EINVAL where R1 is an array. R1 to R5 are 0
 afterwards.",
 };
 
-pub const PROCESSOR_ID: Definition = Definition {
+pub static PROCESSOR_ID: Definition = Definition {
     term: Term::ProcessorId,
     meaning: "helper 8, `call cpu`: the number of the CPU, from 0",
     advice: "\
 R0 is the number. R1 to R5 are 0 afterwards.",
 };
 
-pub const TIME: Definition = Definition {
+pub static TIME: Definition = Definition {
     term: Term::Time,
     meaning: "helper 5, `call ktime_get_ns`: the time of the job, in nanoseconds",
     advice: "\
@@ -140,7 +140,7 @@ it. There is no clock: the time stays the same while the job runs. R1 to R5 are
 0 afterwards.",
 };
 
-pub const TRACE: Definition = Definition {
+pub static TRACE: Definition = Definition {
     term: Term::Trace,
     meaning: "helper 6, `call trace_printk`: nothing is printed",
     advice: "\
@@ -150,7 +150,7 @@ line of it. To see a number, store it to a value of a map or an array, or end
 with it in R0. R1 to R5 are 0 afterwards.",
 };
 
-pub const RANDOM: Definition = Definition {
+pub static RANDOM: Definition = Definition {
     term: Term::Random,
     meaning: "helper 7, `call get_prandom_u32`: the next random number of the job",
     advice: "\
@@ -159,7 +159,7 @@ job's `random N` in a run file, and else the job's number: each run of the file
 has the same, and no other job changes them. R1 to R5 are 0 afterwards.",
 };
 
-pub const PROCESS: Definition = Definition {
+pub static PROCESS: Definition = Definition {
     term: Term::Process,
     meaning: "helper 14, `call get_current_pid_tgid`: the process and the thread of the job",
     advice: "\
@@ -168,14 +168,14 @@ Both are the number of the job plus 1, where the first job of a run file has
 number 0: so two jobs are two processes. R1 to R5 are 0 afterwards.",
 };
 
-pub const USER: Definition = Definition {
+pub static USER: Definition = Definition {
     term: Term::User,
     meaning: "helper 15, `call get_current_uid_gid`: the user and the group of the job",
     advice: "\
 R0 is 0: each job is root's. R1 to R5 are 0 afterwards.",
 };
 
-pub const LOCK: Definition = Definition {
+pub static LOCK: Definition = Definition {
     term: Term::Lock,
     meaning: "helper 93, `call spin_lock`: the lock is taken, once nobody else has it",
     advice: "\
@@ -188,7 +188,7 @@ where no value has four bytes is F1, also one in a frame; one that is no
 multiple of 4 is F2. R0 to R5 are 0 afterwards.",
 };
 
-pub const UNLOCK: Definition = Definition {
+pub static UNLOCK: Definition = Definition {
     term: Term::Unlock,
     meaning: "helper 94, `call spin_unlock`: the lock is free again",
     advice: "\
@@ -197,7 +197,7 @@ afterwards, whoever has taken it: nothing tests that it was this job. A job that
 ends with a lock leaves it taken. R0 to R5 are 0 afterwards.",
 };
 
-pub const BOOT_TIME: Definition = Definition {
+pub static BOOT_TIME: Definition = Definition {
     term: Term::BootTime,
     meaning: "helper 125, `call ktime_get_boot_ns`: the time of the job, in nanoseconds",
     advice: "\
@@ -205,7 +205,7 @@ R0 is the same as that of `ktime_get_ns`: N of the job's `time N` in a run file,
 else 0. R1 to R5 are 0 afterwards.",
 };
 
-pub const SPARE: Definition = Definition {
+pub static SPARE: Definition = Definition {
     term: Term::Spare,
     meaning: "how many elements a map has beside those for its greatest number of keys",
     advice: "\
@@ -216,7 +216,7 @@ update that a job makes of one key suffices where each job makes few; a program
 that changes a value in place, by a store or `lock`, needs none.",
 };
 
-pub const PACKET: Definition = Definition {
+pub static PACKET: Definition = Definition {
     term: Term::Packet,
     meaning: "the bytes that a job was given by `xdp` or `tc`, from 0x10000000 on",
     advice: "\
@@ -226,7 +226,7 @@ its last one (`data_end`); any access outside of these is F1. What a job leaves
 in its packet is printed nowhere. A job of `ctx` has none.",
 };
 
-pub const XDP: Definition = Definition {
+pub static XDP: Definition = Definition {
     term: Term::Xdp,
     meaning: "in version 3 of run files: `job CPU NAME xdp DIGITS`, a job with a packet",
     advice: "\
@@ -236,7 +236,7 @@ which the packet begins and ends, `data_meta` is `data`, `rx_queue_index` is the
 CPU, and all else is 0. tools/from-pcap makes such lines of a capture.",
 };
 
-pub const TC: Definition = Definition {
+pub static TC: Definition = Definition {
     term: Term::Tc,
     meaning: "in version 3 of run files: `job CPU NAME tc DIGITS`, a job with a packet",
     advice: "\

@@ -3,7 +3,7 @@
 use crate::page::{Example, Page};
 use bpf_codes::Code;
 
-pub const A1: Page = Page {
+pub static A1: Page = Page {
     code: Code::A1,
     meaning: "a line of assembly text has no form of the language",
     example: Some(Example {
@@ -17,7 +17,7 @@ form. Spellings of LLVM and of the kernel that differ: `r0 = 5` instead of
 `goto +3` instead of `goto pc+3`, and no `<LBB0_3>` after a target.",
 };
 
-pub const A2: Page = Page {
+pub static A2: Page = Page {
     code: Code::A2,
     meaning: "a line has a form, but a number in it is out of its range",
     example: Some(Example {
@@ -30,7 +30,7 @@ Constants have 32 bits, signed or not; one of 64 bits has `ll` after it, as in
 calls 32.",
 };
 
-pub const A3: Page = Page {
+pub static A3: Page = Page {
     code: Code::A3,
     meaning: "it jumps to a label that isn't there",
     example: Some(Example {
@@ -43,7 +43,7 @@ A label comes before a colon, on a line of its own or before an instruction:
 map or an array in `r1 = map NAME`, of an array or a variable in `r1 = &NAME`.",
 };
 
-pub const A4: Page = Page {
+pub static A4: Page = Page {
     code: Code::A4,
     meaning: "its label was defined before",
     example: Some(Example {
@@ -54,7 +54,7 @@ pub const A4: Page = Page {
 Each label is defined once in a program. The number is the second line's.",
 };
 
-pub const A5: Page = Page {
+pub static A5: Page = Page {
     code: Code::A5,
     meaning: "it jumps to a label that is too far",
     example: Some(Example {
@@ -67,7 +67,7 @@ program goes. A condition gets as far by its opposite, which jumps over a
 `gotol`.",
 };
 
-pub const A6: Page = Page {
+pub static A6: Page = Page {
     code: Code::A6,
     meaning: "no memory for the text, or for hex digits",
     example: None,
@@ -77,7 +77,7 @@ for it. Try again when other programs have ended, or raise the limit (ulimit
 -v).",
 };
 
-pub const H1: Page = Page {
+pub static H1: Page = Page {
     code: Code::H1,
     meaning: "not pairs of hex digits, in the input or in `--ctx`, or a context of more than \
         4,096 bytes",

@@ -3,7 +3,7 @@
 use crate::page::Page;
 use bpf_codes::Code;
 
-pub const J1: Page = Page {
+pub static J1: Page = Page {
     code: Code::J1,
     meaning: "jobs without a worker",
     example: None,
@@ -12,7 +12,7 @@ A crate that calls `run_jobs` of bpf_sched gets it for 0 workers. `ebpf run`
 doesn't print it: `--workers` takes 1 to 16.",
 };
 
-pub const J2: Page = Page {
+pub static J2: Page = Page {
     code: Code::J2,
     meaning: "more than 16 workers",
     example: None,
@@ -21,7 +21,7 @@ A crate that calls `run_jobs` of bpf_sched gets it. `ebpf run` doesn't print it:
 `--workers` takes 1 to 16.",
 };
 
-pub const J3: Page = Page {
+pub static J3: Page = Page {
     code: Code::J3,
     meaning: "a job for a CPU that the store hasn't",
     example: None,
@@ -30,7 +30,7 @@ A crate that calls `run_jobs` of bpf_sched gets it. `ebpf run` doesn't print it:
 such a line of a run file is refused before, by L5.",
 };
 
-pub const J4: Page = Page {
+pub static J4: Page = Page {
     code: Code::J4,
     meaning: "no memory for the workers and their jobs",
     example: None,
