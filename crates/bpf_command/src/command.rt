@@ -86,8 +86,7 @@ pub struct SearchOptions {
     pub patient: bool,
     /// To report on standard error how far the search is. What is found doesn't depend on it.
     pub progress: bool,
-    /// To keep states too that differ only in registers that are written before they are read. What
-    /// is found doesn't depend on it.
+    /// To keep states too that count as one with another. What is found doesn't depend on it.
     pub all_states: bool,
     /// The number of worker threads that make turns ahead; without one, as many as the machine has
     /// processors. What is found doesn't depend on it.
@@ -182,9 +181,9 @@ pub enum Command {
     ShowX86(ShowOptions),
     /// Find the data races of all schedules.
     Races(RaceOptions),
-    /// Tell by every schedule whether a run file's outcomes are as its comments expect.
+    /// Say by every schedule whether a run file's outcomes are as its comments expect.
     Check(CheckOptions),
-    /// Tell what each CPU's turn leads to from states that are read, each a line.
+    /// Print what each CPU's turn leads to from states that are read, each a line.
     Expand {
         /// To print the first state in place of those that others lead to.
         first: bool,
@@ -193,7 +192,7 @@ pub enum Command {
         /// To print the data races of each state before what it leads to.
         races: bool,
     },
-    /// Tell what each move leads to from states, of CPUs with store buffers, that are read.
+    /// Print what each move leads to from states, of CPUs with store buffers, that are read.
     ExpandX86 {
         /// To print the first state in place of those that others lead to.
         first: bool,

@@ -132,7 +132,8 @@ With --show K all that happens is printed as by 'run --x86 --events'. --x86 goes
 --sync and --workers.
 
 A state isn't kept that differs from a kept one only in registers which are written before they are
-read. With --all-states it is: what is found is the same, of more states.
+read; nor, in a file without hash maps, one that differs in which of equal CPUs is how far, unless with
+--patient or --x86. With --all-states both are: what is found is the same, of more states.
 
 Where many states are left, their turns are made on as many threads as there are processors, 16 at most,
 or on those of --workers. What is printed is the same, byte for byte, for any number of them, unless
@@ -155,8 +156,8 @@ For example
   all: 2 outcomes, 20 states
   $ ebpf explore --races examples/lost-additions.run
   race cpu 0 prog 0 pc 5 cpu 1 prog 0 pc 3 var counter by 0*4 1*2
-  race cpu 0 prog 0 pc 3 cpu 1 prog 0 pc 5 var counter by 0*2 1*4
   race cpu 0 prog 0 pc 5 cpu 1 prog 0 pc 5 var counter by 0*4 1*4
+  race cpu 0 prog 0 pc 3 cpu 1 prog 0 pc 5 var counter by 0*7 1*4
   all: 3 races
 
 Exit status:
@@ -691,9 +692,7 @@ fn all_states_option<'a>(alloc: Global) -> Arg<'a>
     Arg::new(alloc, "all-states")
         .long("all-states")
         .action(ArgAction::SetTrue)
-        .help(
-            "Keeps states too that differ only in registers which are written before they are read",
-        )
+        .help("Keeps states too that count as one with another, since the same is found from both")
 }
 
 /// The option `--workers` of a command that searches.

@@ -27,7 +27,7 @@ use bpf_jobs::Report;
 use std::alloc::{AllocError, Global};
 
 /// Which states a search takes for one: where all are to be kept, those that are the same, else those
-/// that differ only in registers that are written before they are read.
+/// too from which the same is found.
 pub(crate) fn merged_by(all_states: bool) -> Merged
     ensures { result ≡ (if all_states then Merged.Same else Merged.Alike) }
 {
