@@ -29,6 +29,14 @@ struct FilePart {
     told: bool,
 }
 
+/// A file among several.
+#[derive(Clone, Copy)]
+struct NamedFile<'a> {
+    name: &'a str,
+    /// How many tests the files before it have.
+    before: usize,
+}
+
 /// That a file is refused.
 fn refused_part(alloc: Global, name: &str, refusal: Refusal) -> Result<FilePart, AllocError>
     ensures { IfOk result (λ p. seen p ≡ refused_part name.now refusal) }
@@ -43,20 +51,20 @@ fn refused_part(alloc: Global, name: &str, refusal: Refusal) -> Result<FilePart,
     })
 }
 
-/// The tests of a text, after the n tests of the files before it, or its first refusal.
+/// The tests of a file's text, or its first refusal.
 fn text_part<D: Racer, C: Crew, O: Observer>(
     alloc: Global,
     options: &CheckOptions,
-    name: &str,
-    before: usize,
+    file: NamedFile<'_>,
     text: &str,
     crew: &C,
     observer: &mut O,
 ) -> Result<FilePart, AllocError>
     requires crew { C.can }
     ensures { IfOk result (λ p.
-        IsTextPart D.finds options.now name.now before text.now (seen p)) }
+        IsTextPart D.finds options.now file.entry.name.now file.entry.before text.now (seen p)) }
 {
+    let NamedFile { name, before } = file;
     let grounds = match grounds_in::<D, C, O>(alloc, options, text, crew, observer) {
         Ok(grounds) => grounds,
         Err(refusal) => return refused_part(alloc, name, refusal),
@@ -86,8 +94,7 @@ fn text_part<D: Racer, C: Crew, O: Observer>(
 fn bytes_part<D: Racer, C: Crew, O: Observer>(
     alloc: Global,
     options: &CheckOptions,
-    name: &str,
-    before: usize,
+    file: NamedFile<'_>,
     bytes: &[u8],
     crew: &C,
     observer: &mut O,
@@ -95,11 +102,11 @@ fn bytes_part<D: Racer, C: Crew, O: Observer>(
     requires crew { C.can }
     requires short { length bytes.now ≤ MAX_INPUT }
     ensures { IfOk result (λ p.
-        IsPart D.finds options.now name.now before bytes.now (seen p)) }
+        IsPart D.finds options.now file.entry.name.now file.entry.before bytes.now (seen p)) }
 {
     match str::from_utf8(bytes) {
-        Ok(text) => text_part::<D, C, O>(alloc, options, name, before, text, crew, observer),
-        Err(_) => refused_part(alloc, name, Refusal::NotText),
+        Ok(text) => text_part::<D, C, O>(alloc, options, file, text, crew, observer),
+        Err(_) => refused_part(alloc, file.name, Refusal::NotText),
     }
 }
 
@@ -116,24 +123,24 @@ fn bytes_of<R: Source>(alloc: Global, name: &str, source: &mut R) -> Result<Vec<
     read_whole(alloc, source)
 }
 
-/// What is printed of a file, after the n tests of the files before it.
+/// What is printed of a file.
 fn part_of<D: Racer, R: Source, C: Crew, O: Observer>(
     alloc: Global,
     options: &CheckOptions,
-    name: &str,
-    before: usize,
+    file: NamedFile<'_>,
     source: &mut R,
     crew: &C,
     observer: &mut O,
 ) -> Result<FilePart, AllocError>
     requires crew { C.can }
-    ensures part { IfOk result (λ p. IfSome (R.file source.old name.now)
-        (λ bytes. IsPart D.finds options.now name.now before bytes (seen p))) }
+    ensures part { IfOk result (λ p. IfSome (R.file source.old file.entry.name.now)
+        (λ bytes. IsPart D.finds options.now file.entry.name.now file.entry.before bytes
+        (seen p))) }
     ensures files { R.file source.new ≡ R.file source.old }
 {
-    match bytes_of(alloc, name, source) {
-        Ok(bytes) => bytes_part::<D, C, O>(alloc, options, name, before, &bytes, crew, observer),
-        Err(error) => refused_part(alloc, name, Refusal::Input(error)),
+    match bytes_of(alloc, file.name, source) {
+        Ok(bytes) => bytes_part::<D, C, O>(alloc, options, file, &bytes, crew, observer),
+        Err(error) => refused_part(alloc, file.name, Refusal::Input(error)),
     }
 }
 
@@ -183,15 +190,11 @@ fn tell_all<D: Racer, R: Source, C: Crew, O: Observer>(
         told: true,
     };
     for name in names {
-        let part = part_of::<D, R, C, O>(
-            alloc,
-            options,
-            name.as_str(),
-            tally.tests,
-            source,
-            crew,
-            observer,
-        )?;
+        let file = NamedFile {
+            name: name.as_str(),
+            before: tally.tests,
+        };
+        let part = part_of::<D, R, C, O>(alloc, options, file, source, crew, observer)?;
         tally.add(&part)?;
     }
     Ok(tally)

@@ -9,7 +9,7 @@ use Rattle.bpf_replies.proofs.several.text_part.Goals as goal
 pub returns : goal.returns
 returns g c =
     let o = c.args.options.now in
-    let name = c.args.name.now in
+    let name = c.args.file.name.now in
     let grounds = c.in-Ok.grounds in
     let expected = grounds.expected.items in
     let lines = grounds.lines.items in
@@ -23,7 +23,7 @@ returns g c =
     let made = c.in_ok-text-2.ensures ∙ (ap (λ (t : List ℕ). head_text t c.states_of-states.result notes ++ c.deref-4.result.now) c.deref-3.ensures
     ∙ (ap (λ (t : List ℕ). head_text mark c.states_of-states.result notes ++ t) c.deref-4.ensures ∙ ap (λ (t : List ℕ). t ++ told) heads)) in
     let given = c.deref.result.now in
-    let listed = c.in_ok-text.ensures.text ∙ ap (λ (ls : List ℕ). listed_text (name_text name) ls c.args.before f given
+    let listed = c.in_ok-text.ensures.text ∙ ap (λ (ls : List ℕ). listed_text (name_text name) ls c.args.file.before f given
     (verdicts_of f given)) c.deref-2.ensures.value in
     inr (
       expected,
@@ -34,7 +34,7 @@ returns g c =
       c.in-Ok.ensures.findings,
       notes,
       c.in-Ok.ensures.notes,
-      part_made o name lines c.args.before f notes expected given (string_bytes c.in_ok-text-2.text) told head tests.tests
+      part_made o name lines c.args.file.before f notes expected given (string_bytes c.in_ok-text-2.text) told head tests.tests
           tests.conclusion c.is_unmet.result c.is_told.result
           c.deref.ensures.value listed c.in_ok-text.ensures.tests c.in_ok-text.ensures.conclusion refl made c.is_unmet.ensures c.is_told.ensures,
     )
