@@ -404,7 +404,7 @@ fn show<P: Print + Eprint>(rt: &P, error: &clap::Error) -> u8
     }
 }
 
-/// Tells a failed write, and gives the exit status.
+/// Prints that a write failed, and gives the exit status.
 fn exit<P: Eprint>(rt: &P, status: Status) -> u8
     ensures { result ≡ exit_status status }
 {
@@ -414,7 +414,7 @@ fn exit<P: Eprint>(rt: &P, status: Status) -> u8
     status.code()
 }
 
-/// Tells what workers came to at the maps, where that is asked for and the answer could be printed.
+/// Prints what workers came to at the maps, where that is asked for and the answer could be printed.
 fn tell_stats<P: Eprint>(rt: &P, done: &Performed) {
     if done.status == Status::Failed {
         return;

@@ -9,7 +9,7 @@ pub trait Aside {
     /// Whether somebody reads it as it comes.
     fn is_watched(&self) -> bool;
 
-    /// Tells how far a search is, if that can be written.
+    /// Prints how far a search is, if that can be written.
     fn tell(&self, progress: Progress);
 }
 
@@ -25,7 +25,7 @@ impl Aside for HostRuntime {
     }
 }
 
-/// Tells how far a search is where that is asked for, or where somebody reads it as it comes.
+/// Prints how far a search is where that is asked for, or where somebody reads it as it comes.
 #[derive(Clone, Copy)]
 pub struct Teller<'a, T: Aside> {
     rt: &'a T,
