@@ -28,11 +28,11 @@ impl fmt::Display for Definition {
     }
 }
 
-/// The page of a term.
+/// The definition of a term.
 pub fn definition_of(term: Term) -> Definition
     ensures { result.term ≡ term }
 {
-    let page = match term {
+    let definition = match term {
         Term::Enoent => &terms::ENOENT,
         Term::TooBig => &terms::E2BIG,
         Term::Enomem => &terms::ENOMEM,
@@ -60,5 +60,5 @@ pub fn definition_of(term: Term) -> Definition
         Term::Xdp => &terms::XDP,
         Term::Tc => &terms::TC,
     };
-    *page
+    *definition
 }

@@ -47,7 +47,7 @@ richer_join x y z (inr (state, left, k, was, is)) more =
       ),
     )
 
-rich_join : (xs ys zs : List Task) → AsRich xs ys → AsRich xs zs → (ts : List Task) × AsRich ys ts × AsRich zs ts
+pub rich_join : (xs ys zs : List Task) → AsRich xs ys → AsRich xs zs → (ts : List Task) × AsRich ys ts × AsRich zs ts
 rich_join [] [] [] a b = ([], tt, tt)
 rich_join [] [] (z ∷ zs) a b = absurd b
 rich_join [] (y ∷ ys) zs a b = absurd a
@@ -63,7 +63,7 @@ richer_end : (old new : Task) (end : Outcome) → IsRicher old new → new.stage
 richer_end old new end (inl same) at = same
 richer_end old new end (inr a) at = let no : InHand a.0 (a.1 + a.2) ≡ Ended end = ap (λ (t : Task). t.stage) (sym a.4) ∙ at in cc
 
-poor_ended : (xs ys : List Task) → AsRich xs ys → HaveEnded ys → ys ≡ xs
+pub poor_ended : (xs ys : List Task) → AsRich xs ys → HaveEnded ys → ys ≡ xs
 poor_ended [] [] rich ended = refl
 poor_ended [] (y ∷ ys) rich ended = absurd rich
 poor_ended (x ∷ xs) [] rich ended = absurd rich
@@ -72,7 +72,7 @@ poor_ended (x ∷ xs) (y ∷ ys) rich ended =
     ap (λ (t : Task). t ∷ ys) (richer_end x y end.0 rich.0 end.1) ∙ ap (λ (ts : List Task). x ∷ ts)
     (poor_ended xs ys rich.1 (λ j task at. ended (suc j) task at))
 
-none_poor : (xs ys : List Task) → AsRich xs ys → NoneRanOut ys → NoneRanOut xs
+pub none_poor : (xs ys : List Task) → AsRich xs ys → NoneRanOut ys → NoneRanOut xs
 none_poor xs ys rich none j task pc at ended =
     let b = rich_at xs ys j task rich at in
     let same : b.0 ≡ task = end_richer task b.0 (OutOfBudget pc) b.2 ended in
@@ -83,41 +83,41 @@ ended_before : (programs : List Loaded) (n : ℕ) (old new : Task) (end : Outcom
 ended_before programs n old new end (inl a) at = a.0
 ended_before programs n old new end (inr a) at = let no : Ended end ≡ InHand a.1 a.2 = sym at ∙ a.6 in cc
 
-none_before : (y v : World) (headways : ℕ → Headway) → IsAheadOf (IsAhead headways) headways y.jobs v → NoneRanOut v.jobs → NoneRanOut y.jobs
+pub none_before : (y v : World) (headways : ℕ → Headway) → IsAheadOf (IsAhead headways) headways y.jobs v → NoneRanOut v.jobs → NoneRanOut y.jobs
 none_before y v headways ahead none j task pc at ended =
     let b = before v.programs (λ c. turns_in (headways c)) y.jobs v.jobs ahead.each j task at in
     let same : b.0 ≡ task = ended_before v.programs (turns_in (headways task.cpu)) task b.0 (OutOfBudget pc) b.2 ended in
     none j b.0 pc b.1 (ap (λ (t : Task). t.stage) same ∙ ended)
 
 -- what they lead to has ended: so had it before them
-ended_behind : (programs : List Loaded) (n : ℕ) (old new : Task) (end : Outcome) → Precedes programs n old new → new.stage ≡ Ended end → new ≡ old
-ended_behind programs n old new end (inl a) at = a.0
-ended_behind programs n old new end (inr a) at = let no : Ended end ≡ InHand a.3 a.4 = sym at ∙ ap (λ (t : Task). t.stage) a.7 in cc
+pub ended_after : (programs : List Loaded) (n : ℕ) (old new : Task) (end : Outcome) → Precedes programs n old new → new.stage ≡ Ended end → new ≡ old
+ended_after programs n old new end (inl a) at = a.0
+ended_after programs n old new end (inr a) at = let no : Ended end ≡ InHand a.3 a.4 = sym at ∙ ap (λ (t : Task). t.stage) a.7 in cc
 
-have_ended_before : (y v : World) (headways : ℕ → Headway) → IsAheadOf (IsAhead headways) headways y.jobs v → HaveEnded v.jobs → HaveEnded y.jobs
+pub have_ended_before : (y v : World) (headways : ℕ → Headway) → IsAheadOf (IsAhead headways) headways y.jobs v → HaveEnded v.jobs → HaveEnded y.jobs
 have_ended_before y v headways ahead ended j task at =
     let b = before v.programs (λ c. turns_in (headways c)) y.jobs v.jobs ahead.each j task at in
     let end = ended j b.0 b.1 in
-    let same : b.0 ≡ task = ended_behind v.programs (turns_in (headways task.cpu)) task b.0 end.0 b.2 end.1 in
+    let same : b.0 ≡ task = ended_after v.programs (turns_in (headways task.cpu)) task b.0 end.0 b.2 end.1 in
     (end.0, ap (λ (t : Task). t.stage) (sym same) ∙ end.1)
 
 -- ---- runs in which jobs are given steps
 -- more are given before the first turn
-gift_first : (cs : List ℕ) (w z : World) (jobs : List Task) → AsRich w.jobs jobs → RunsFreely (with_jobs w jobs) cs z → RunsFreely w cs z
+pub gift_first : (cs : List ℕ) (w z : World) (jobs : List Task) → AsRich w.jobs jobs → RunsFreely (with_jobs w jobs) cs z → RunsFreely w cs z
 gift_first [] w z jobs rich (more, richer, same) = (more, rich_again w.jobs jobs more rich richer, same)
 gift_first (c ∷ cs) w z jobs rich (more, answer, m, richer, progress, runs) = (more, answer, m, rich_again w.jobs jobs more rich richer, progress, runs)
 
-runs_then_freely : (cs ds : List ℕ) (w y z : World) → RunsSchedule w cs y → RunsFreely y ds z → RunsFreely w (cs ++ ds) z
+pub runs_then_freely : (cs ds : List ℕ) (w y z : World) → RunsSchedule w cs y → RunsFreely y ds z → RunsFreely w (cs ++ ds) z
 runs_then_freely [] ds w y z runs freely = subst (λ (x : World). RunsFreely x ds z) runs freely
 runs_then_freely (c ∷ cs) ds w y z (answer, m, progress, runs) freely =
     (w.jobs, answer, m, all_same w.jobs, progress, runs_then_freely cs ds m y z runs freely)
 
-freely_again : (cs ds : List ℕ) (w y z : World) → RunsFreely w cs y → RunsFreely y ds z → RunsFreely w (cs ++ ds) z
+pub freely_again : (cs ds : List ℕ) (w y z : World) → RunsFreely w cs y → RunsFreely y ds z → RunsFreely w (cs ++ ds) z
 freely_again [] ds w y z (jobs, rich, same) freely = gift_first ds w z jobs rich (subst (λ (x : World). RunsFreely x ds z) same freely)
 freely_again (c ∷ cs) ds w y z (jobs, answer, m, rich, progress, runs) freely =
     (jobs, answer, m, rich, progress, freely_again cs ds m y z runs freely)
 
-freely_none : (cs : List ℕ) (w z : World) → RunsFreely w cs z → NoneRanOut z.jobs → NoneRanOut w.jobs
+pub freely_none : (cs : List ℕ) (w z : World) → RunsFreely w cs z → NoneRanOut z.jobs → NoneRanOut w.jobs
 freely_none [] w z (jobs, rich, same) none = none_poor w.jobs jobs rich (subst (λ (x : World). NoneRanOut x.jobs) same none)
 freely_none (c ∷ cs) w z (jobs, answer, m, rich, progress, runs) none =
     let after = freely_none cs m z runs none in
@@ -129,12 +129,12 @@ freely_none (c ∷ cs) w z (jobs, answer, m, rich, progress, runs) none =
 abbrev pub IsShownAt : List MachineState → ℕ → World → Type 0
 IsShownAt kept i w = (m : MachineState) × (slice_get kept i ≡ Some m) × Shows m w
 
-is_turns : (h : Headway) (n : ℕ) → turns_in h ≡ suc n → h ≡ Turns (suc n)
+pub is_turns : (h : Headway) (n : ℕ) → turns_in h ≡ suc n → h ≡ Turns (suc n)
 is_turns Idle n e = let no : 0 ≡ suc n = e in cc
 is_turns (Turns m) n e = ap Turns e
 
 -- turns of one CPU lead through those that were made ahead to the next kept machine
-through : (P Q : World → Type 0) (c n : ℕ) → LeadsBy P (λ h u. Q u) c → (w v : World) (headways : ℕ → Headway) → P v → with_jobs v w.jobs ≡
+pub through : (P Q : World → Type 0) (c n : ℕ) → LeadsBy P (λ h u. Q u) c → (w v : World) (headways : ℕ → Headway) → P v → with_jobs v w.jobs ≡
     w → IsAheadOf (IsAhead headways) headways w.jobs v → turns_in (headways c) ≡ n
     → (cs : List ℕ) × (y : World) × RunsSchedule w cs y × IsCoveredBy Q y
 through P Q c zero leads w v headways shown same ahead none =

@@ -39,7 +39,7 @@ fn sort_front(keys: &mut [Vec<u8>], count: usize)
 }
 
 impl KeyList {
-    /// Makes room for the keys of a map of this shape. Want of memory is the only refusal.
+    /// Makes room for the keys of a map of this shape. The only refusal is that memory is out.
     pub fn new(alloc: Global, shape: &MapShape) -> Result<KeyList, AllocError>
         ensures shape { IfOk result (λ list. list.shape ≡ shape.now) }
         ensures empty { IfOk result (λ list. list.keys ≡ []) }

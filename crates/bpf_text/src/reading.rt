@@ -56,7 +56,7 @@ pub(crate) fn ends<'a>(insn: Insn, tokens: &[Token<'a>]) -> Result<Draft<'a>, Li
     }
 }
 
-/// Behind a line's first word.
+/// After a line's first word.
 #[tactic(auto, unfolding(crate::specs::Private::Lines::statement_at))]
 fn statement<'a>(keyword: Keyword, tokens: &[Token<'a>]) -> Result<Draft<'a>, LineError>
     ensures { Judged result (statement_at keyword (map look tokens.now)) }

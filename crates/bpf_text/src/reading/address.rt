@@ -36,7 +36,7 @@ pub fn address<'t, 'a>(tokens: &'t [Token<'a>]) -> Option<(Reg, Literal<'a>, &'t
     }
 }
 
-/// Behind `(u8 *)(R + n`: the size, the base, the offset, and what follows.
+/// After `(u8 *)(R + n`: the size, the base, the offset, and what follows.
 #[tactic(auto, unfolding(crate::specs::Private::Pieces::closed_at))]
 fn closed<'t, 'a>(
     size: Keyword,
@@ -58,7 +58,7 @@ fn closed<'t, 'a>(
     }
 }
 
-/// Behind `(u8 *`.
+/// After `(u8 *`.
 #[tactic(auto, unfolding(crate::specs::Private::Pieces::pointer_at))]
 fn pointer<'t, 'a>(
     size: Keyword,

@@ -13,7 +13,7 @@ use crate::token::Token;
 use bpf_insn::{AluOp, ByteSwap, Insn, Reg, SignExtension, SignedSize, SwapWidth, Width};
 use bpf_spelling::{Keyword, Sign, operators};
 
-/// Behind the second operand.
+/// After the second operand.
 #[tactic(auto, unfolding(crate::specs::Private::Lines::alu_end))]
 fn alu_end<'a>(
     width: Width,
@@ -40,7 +40,7 @@ fn alu_end<'a>(
     }
 }
 
-/// Behind an operation's sign.
+/// After an operation's sign.
 #[tactic(auto, unfolding(crate::specs::Private::Lines::alu_at))]
 pub(crate) fn alu<'a>(
     width: Width,
@@ -56,7 +56,7 @@ pub(crate) fn alu<'a>(
     alu_end(width, dst, op, src, rest)
 }
 
-/// Behind a register: an operation's sign, and the second operand.
+/// After a register: an operation's sign, and the second operand.
 #[tactic(auto, unfolding(crate::specs::Private::Lines::operation_at))]
 pub(crate) fn operation<'a>(
     width: Width,
@@ -88,7 +88,7 @@ pub(crate) fn extension(width: Width, size: SignedSize) -> Option<SignExtension>
     }
 }
 
-/// Behind `= (`.
+/// After `= (`.
 #[tactic(auto, unfolding(crate::specs::Private::Lines::extend_at))]
 pub(crate) fn sign_extension<'a>(
     width: Width,
@@ -124,7 +124,7 @@ pub(crate) fn sign_extension<'a>(
     }
 }
 
-/// Behind `R = be16`.
+/// After `R = be16`.
 #[tactic(auto, unfolding(crate::specs::Private::Lines::swap_at))]
 pub(crate) fn swap<'a>(
     width: Width,

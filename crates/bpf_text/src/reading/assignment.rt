@@ -15,7 +15,7 @@ use bpf_insn::{AluOp, Insn, Operand, Reg, Width};
 use bpf_lines::numbers::{self, Radix};
 use bpf_spelling::{Keyword, Sign};
 
-/// Behind `R = map`.
+/// After `R = map`.
 #[tactic(auto, unfolding(crate::specs::Private::Lines::map_at))]
 fn map<'a>(width: Width, dst: Reg, tokens: &[Token<'a>]) -> Result<Draft<'a>, LineError>
     ensures { Judged result (map_at width dst (map look tokens.now)) }
@@ -31,7 +31,7 @@ fn map<'a>(width: Width, dst: Reg, tokens: &[Token<'a>]) -> Result<Draft<'a>, Li
     }
 }
 
-/// Behind `=` and a keyword.
+/// After `=` and a keyword.
 #[tactic(auto, unfolding(crate::specs::Private::Lines::keyword_at))]
 fn assigned_by<'a>(
     width: Width,
@@ -90,7 +90,7 @@ fn moved<'a>(
     }
 }
 
-/// Behind `= -`.
+/// After `= -`.
 #[tactic(auto, unfolding(crate::specs::Private::Lines::negative_at))]
 fn negative<'a>(width: Width, dst: Reg, tokens: &[Token<'a>]) -> Result<Draft<'a>, LineError>
     ensures { Judged result (negative_at width dst (map look tokens.now)) }
@@ -110,7 +110,7 @@ fn negative<'a>(width: Width, dst: Reg, tokens: &[Token<'a>]) -> Result<Draft<'a
     }
 }
 
-/// Behind `= n ll`.
+/// After `= n ll`.
 #[tactic(auto, unfolding(crate::specs::Private::Lines::wide_at))]
 fn wide<'a>(dst: Reg, number: Literal<'a>, tokens: &[Token<'a>]) -> Result<Draft<'a>, LineError>
     ensures { Judged
@@ -128,7 +128,7 @@ fn wide<'a>(dst: Reg, number: Literal<'a>, tokens: &[Token<'a>]) -> Result<Draft
     }
 }
 
-/// Behind `= n`.
+/// After `= n`.
 #[tactic(auto, unfolding(crate::specs::Private::Lines::number_at))]
 fn number<'a>(
     width: Width,
@@ -147,7 +147,7 @@ fn number<'a>(
     }
 }
 
-/// Behind `=`.
+/// After `=`.
 #[tactic(auto, unfolding(crate::specs::Private::Lines::assigned_at))]
 fn assigned<'a>(width: Width, dst: Reg, tokens: &[Token<'a>]) -> Result<Draft<'a>, LineError>
     ensures { Judged result (assigned_at width dst (map look tokens.now)) }
@@ -162,7 +162,7 @@ fn assigned<'a>(width: Width, dst: Reg, tokens: &[Token<'a>]) -> Result<Draft<'a
     }
 }
 
-/// Behind a register.
+/// After a register.
 #[tactic(auto, unfolding(crate::specs::Private::Lines::register_at))]
 pub(crate) fn register<'a>(
     width: Width,

@@ -42,7 +42,7 @@ fn atomic_end<'a>(
     }
 }
 
-/// Behind the place of an operation that fetches: `, R)`.
+/// After the place of an operation that fetches: `, R)`.
 #[tactic(auto, unfolding(crate::specs::Private::Lines::atomic_at))]
 fn fetched<'a>(
     op: AtomicOp,
@@ -72,7 +72,7 @@ fn fetched<'a>(
     }
 }
 
-/// Behind `= atomic_fetch_add`.
+/// After `= atomic_fetch_add`.
 #[tactic(auto, unfolding(crate::specs::Private::Lines::fetch_at))]
 fn fetch<'a>(
     op: AtomicOp,
@@ -100,7 +100,7 @@ fn fetch<'a>(
     }
 }
 
-/// Behind `=` and a name.
+/// After `=` and a name.
 #[tactic(auto, unfolding(crate::specs::Private::Lines::fetched_at))]
 pub(crate) fn fetched_by<'a>(
     width: Width,
@@ -116,7 +116,7 @@ pub(crate) fn fetched_by<'a>(
     fetch(op, width, dst, tokens)
 }
 
-/// Behind `= xchg_64`.
+/// After `= xchg_64`.
 #[tactic(auto, unfolding(crate::specs::Private::Lines::exchange_at))]
 pub(crate) fn exchange<'a>(
     width: Width,
@@ -136,7 +136,7 @@ pub(crate) fn exchange<'a>(
     }
 }
 
-/// Behind `cmpxchg_64(R + n, r0`.
+/// After `cmpxchg_64(R + n, r0`.
 #[tactic(auto, unfolding(crate::specs::Private::Lines::compared_at))]
 fn compared<'a>(
     width: Width,
@@ -165,7 +165,7 @@ fn compared<'a>(
     }
 }
 
-/// Behind `cmpxchg_64(R + n`.
+/// After `cmpxchg_64(R + n`.
 #[tactic(auto, unfolding(crate::specs::Private::Lines::expected_at))]
 fn expected<'a>(
     width: Width,
@@ -192,7 +192,7 @@ fn expected<'a>(
     }
 }
 
-/// Behind `R = cmpxchg_64`.
+/// After `R = cmpxchg_64`.
 #[tactic(auto, unfolding(crate::specs::Private::Lines::compare_exchange_at))]
 pub(crate) fn compare_exchange<'a>(
     width: Width,
@@ -212,7 +212,7 @@ pub(crate) fn compare_exchange<'a>(
     }
 }
 
-/// Behind `lock *(u64 *)(R + n)`.
+/// After `lock *(u64 *)(R + n)`.
 #[tactic(auto, unfolding(crate::specs::Private::Lines::locked_at))]
 fn locked<'a>(
     width: Width,
@@ -238,7 +238,7 @@ fn locked<'a>(
     }
 }
 
-/// Behind `lock`.
+/// After `lock`.
 #[tactic(auto, unfolding(crate::specs::Private::Lines::lock_at))]
 pub(crate) fn lock<'a>(tokens: &[Token<'a>]) -> Result<Draft<'a>, LineError>
     ensures { Judged result (lock_at (map look tokens.now)) }

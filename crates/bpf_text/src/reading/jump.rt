@@ -15,7 +15,7 @@ use bpf_insn::{Condition, Insn, Reg, Width};
 use bpf_lines::numbers::Radix;
 use bpf_spelling::{Keyword, operators};
 
-/// Behind `goto`.
+/// After `goto`.
 #[tactic(auto, unfolding(crate::specs::Private::Lines::jump_at))]
 pub(crate) fn jump<'a>(tokens: &[Token<'a>]) -> Result<Draft<'a>, LineError>
     ensures { Judged result (jump_at (map look tokens.now)) }
@@ -35,7 +35,7 @@ pub(crate) fn jump<'a>(tokens: &[Token<'a>]) -> Result<Draft<'a>, LineError>
     }
 }
 
-/// Behind `gotol`.
+/// After `gotol`.
 #[tactic(auto, unfolding(crate::specs::Private::Lines::jump_long_at))]
 pub(crate) fn jump_long<'a>(tokens: &[Token<'a>]) -> Result<Draft<'a>, LineError>
     ensures { Judged result (jump_long_at (map look tokens.now)) }
@@ -96,7 +96,7 @@ fn branch_to<'a>(
     }
 }
 
-/// Behind `if R == R`.
+/// After `if R == R`.
 #[tactic(auto, unfolding(crate::specs::Private::Lines::branch_end))]
 fn branch_end<'a>(
     width: Width,
@@ -119,7 +119,7 @@ fn branch_end<'a>(
     }
 }
 
-/// Behind `if`.
+/// After `if`.
 #[tactic(auto, unfolding(crate::specs::Private::Lines::branch_at))]
 pub(crate) fn branch<'a>(tokens: &[Token<'a>]) -> Result<Draft<'a>, LineError>
     ensures { Judged result (branch_at (map look tokens.now)) }
@@ -141,7 +141,7 @@ pub(crate) fn branch<'a>(tokens: &[Token<'a>]) -> Result<Draft<'a>, LineError>
     }
 }
 
-/// Behind `call`, a number.
+/// After `call`, a number.
 #[tactic(auto, unfolding(crate::specs::Private::Lines::helper_at))]
 fn call_helper<'a>(
     radix: Radix,
@@ -161,7 +161,7 @@ fn call_helper<'a>(
     }
 }
 
-/// Behind `call`, a target.
+/// After `call`, a target.
 #[tactic(auto, unfolding(crate::specs::Private::Lines::call_local_at))]
 fn call_local<'a>(tokens: &[Token<'a>]) -> Result<Draft<'a>, LineError>
     ensures { Judged result (call_local_at (map look tokens.now)) }
@@ -181,7 +181,7 @@ fn call_local<'a>(tokens: &[Token<'a>]) -> Result<Draft<'a>, LineError>
     }
 }
 
-/// Behind `call`.
+/// After `call`.
 #[tactic(auto, unfolding(crate::specs::Private::Lines::call_at))]
 pub(crate) fn call<'a>(tokens: &[Token<'a>]) -> Result<Draft<'a>, LineError>
     ensures { Judged result (call_at (map look tokens.now)) }

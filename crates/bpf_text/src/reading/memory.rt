@@ -12,7 +12,7 @@ use crate::token::Token;
 use bpf_insn::{Insn, Operand, Reg, Width};
 use bpf_spelling::{Keyword, Sign};
 
-/// Behind `R = *(u8 *)(R + n)`.
+/// After `R = *(u8 *)(R + n)`.
 #[tactic(auto, unfolding(crate::specs::Private::Lines::loaded_at))]
 fn loaded<'a>(
     dst: Reg,
@@ -51,7 +51,7 @@ fn loaded<'a>(
     }
 }
 
-/// Behind `= *`.
+/// After `= *`.
 #[tactic(auto, unfolding(crate::specs::Private::Lines::load_at))]
 pub(crate) fn load<'a>(width: Width, dst: Reg, tokens: &[Token<'a>]) -> Result<Draft<'a>, LineError>
     ensures { Judged result (load_at width dst (map look tokens.now)) }
@@ -67,7 +67,7 @@ pub(crate) fn load<'a>(width: Width, dst: Reg, tokens: &[Token<'a>]) -> Result<D
     }
 }
 
-/// Behind `*(u8 *)(R + n) = R`.
+/// After `*(u8 *)(R + n) = R`.
 #[tactic(auto, unfolding(crate::specs::Private::Lines::stored_end))]
 fn stored_end<'a>(
     size: Keyword,
@@ -107,7 +107,7 @@ fn stored_end<'a>(
     }
 }
 
-/// Behind `*(u8 *)(R + n)`.
+/// After `*(u8 *)(R + n)`.
 #[tactic(auto, unfolding(crate::specs::Private::Lines::stored_at))]
 fn stored<'a>(
     size: Keyword,
@@ -129,7 +129,7 @@ fn stored<'a>(
     }
 }
 
-/// Behind `*`.
+/// After `*`.
 #[tactic(auto, unfolding(crate::specs::Private::Lines::store_at))]
 pub(crate) fn store<'a>(tokens: &[Token<'a>]) -> Result<Draft<'a>, LineError>
     ensures { Judged result (store_at (map look tokens.now)) }
