@@ -162,8 +162,9 @@ impl Batches {
         if self.aged.is_none() {
             return false;
         }
-        let count = lane.see_own_counter(table);
-        self.noted[usize::from(lane.cpu())] != count
+        let cpu = lane.cpu();
+        let count = lane.see_own_counter(table, cpu);
+        self.noted[usize::from(cpu)] != count
     }
 
     // Whether each counter noted with the old batch is even, or another by now, which is then noted
@@ -196,7 +197,8 @@ impl Batches {
         true
     }
 
-    // Gives each element of the old batch back.
+    // Gives each element of the old batch back. The batch is written when it is empty: each step may
+    // change memory, so what lies in it is read again after each.
     fn free(&mut self, lane: &mut Lane, table: &HopTable)
         requires table { lane.old.table ≡ table.now.id }
         requires even { table.now.about.count % 2 ≡ 0 }
@@ -214,12 +216,17 @@ impl Batches {
             ≡ (limbo_at lane.old.known.limbo self.old.map).young }
         ensures freed { (limbo_at lane.new.known.limbo self.old.map).old ≡ [] }
     {
-        while let Some(element) = self.aged {
-            let link = lane.read_old_link(table, self.map, element);
-            lane.give_old_bit(table, self.map, element);
-            self.returned = Some(element);
-            self.aged = element_of(link);
+        let map = self.map;
+        let mut left = self.aged;
+        let mut last = self.returned;
+        while let Some(element) = left {
+            let link = lane.read_old_link(table, map, element);
+            lane.give_old_bit(table, map, element);
+            last = Some(element);
+            left = element_of(link);
         }
+        self.returned = last;
+        self.aged = None;
     }
 
     // The young batch becomes the old one, which is empty, and each counter is noted with it.

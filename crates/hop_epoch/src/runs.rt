@@ -22,11 +22,13 @@ pub fn begin_run(lane: &mut Lane, table: &HopTable) -> Result<(), Worn>
     ensures worn { OnErr result (run_count table.now.about lane.old.known ≡ 2 ^ 64 - 2) }
     ensures unchanged { OnErr result (lane.new.known ≡ lane.old.known) }
 {
-    let count = lane.see_own_counter(table);
+    // Read once: a step may change memory, where the lane lies.
+    let cpu = lane.cpu();
+    let count = lane.see_own_counter(table, cpu);
     if count >= u64::MAX - 1 {
         return Err(Worn);
     }
-    lane.count_begin(table);
+    lane.count_begin(table, cpu);
     Ok(())
 }
 

@@ -1,5 +1,7 @@
 -- What the words of a locked segment show, once one of them was read.
-use Rattle.std.proofs.Common.{◌≡◌, ℕ, ◌%◌, ap, sym, subst, ◌∙◌}
+use Rattle.std.proofs.Common.{◌≡◌, ℕ, ◌+◌, ◌*◌, ◌%◌, ◌<◌, ap, sym, subst, ◌∙◌, arith}
+use Rattle.hop_layout.specs.declared.about.About.{About}
+use Rattle.hop_layout.proofs.Indexes.{at_stamp, at_head, at_hop, at_slot}
 use Rattle.hop_layout.specs.declared.place.Place.{Place}
 use Rattle.hop_layout.specs.declared.place.Place.TheVariants.{Head, Hop, Slot, Link}
 use Rattle.hop_layout.specs.Layout.{mem}
@@ -8,8 +10,19 @@ use Rattle.hop_words.specs.Locking.{lock_of}
 use Rattle.hop_words.specs.Guarded.{IsGuarded}
 use Rattle.hop_seg.specs.Words.{Words as SegWords, IsKnown}
 use Rattle.hop_map.specs.LockedSegment.{Locked, Ready}
-use Rattle.hop_map.specs.Private.LockedSegment.{seen_words}
+use Rattle.hop_map.specs.Private.LockedSegment.{seen_words, IsWordAt}
 use Rattle.hop_map.proofs.Written.{mine}
+
+-- where a segment's words are, counted from its first
+module _ (a : About) (m s : ℕ) (p : Place) where
+  pub hop_at : (b : ℕ) → b < 64 → p ≡ Hop m s b → IsWordAt a m s (2 + 2 * b) p
+  hop_at b few is = subst (IsWordAt a m s (2 + 2 * b)) (sym is) (omega arith, (let x = at_hop a.shape m s b in let y = at_stamp a.shape m s in omega arith))
+
+  pub slot_at : (b : ℕ) → b < 64 → p ≡ Slot m s b → IsWordAt a m s (3 + 2 * b) p
+  slot_at b few is = subst (IsWordAt a m s (3 + 2 * b)) (sym is) (omega arith, (let x = at_slot a.shape m s b in let y = at_stamp a.shape m s in omega arith))
+
+  pub head_at : p ≡ Head m s → IsWordAt a m s 1 p
+  head_at is = subst (IsWordAt a m s 1) (sym is) (omega arith, (let x = at_head a.shape m s in let y = at_stamp a.shape m s in omega arith))
 
 module _ (x y : Locked) (p : Place) (n : ℕ) (r : Ready x.about x.known x.map x.segment) (same : y ≡ x)
     (is : IsGuarded x.about x.known p → n ≡ mem x.about.shape (lock_of x.known).copy p) (w : SegWords) (a : w ≡ seen_words y) where

@@ -1,5 +1,5 @@
 -- What the code of one segment sees of the shared words.
-use Rattle.std.specs.Prelude.{◌≡◌, ℕ, ◌%◌, ◌^◌, ◌≤◌, Bool, true, false, ◌||◌, ◌&&◌, ◌==◌, List, [], ◌∷◌, length}
+use Rattle.std.specs.Prelude.{◌≡◌, ℕ, ◌+◌, ◌%◌, ◌^◌, ◌≤◌, Bool, true, false, ◌||◌, ◌&&◌, ◌==◌, List, [], ◌∷◌, length}
 use Rattle.atomic_table.specs.Seated.{TableId}
 use Rattle.bpf_shared.specs.Shape.{elements}
 use Rattle.hop_layout.specs.declared.about.About.{About}
@@ -7,7 +7,8 @@ use Rattle.hop_words.specs.declared.known.Known.{Known}
 use Rattle.hop_words.specs.declared.known.Fresh.{Fresh}
 use Rattle.hop_words.specs.declared.known.Change.{Change}
 use Rattle.hop_words.specs.declared.known.Change.TheVariants.{Nothing, Puts, Drops}
-use Rattle.hop_layout.specs.Layout.{size}
+use Rattle.hop_layout.specs.Layout.{at, size}
+use Rattle.hop_layout.specs.declared.place.Place.TheVariants.{Stamp}
 use Rattle.hop_words.specs.Content.{MapWords, item, HasKey}
 use Rattle.hop_words.specs.Ghost.{shape_at, IsSegment, child}
 use Rattle.hop_words.specs.Rule.{image}
@@ -95,6 +96,17 @@ pub record Fits (id : TableId) (a : About) (standing : TableId) (l : Known)
   pub small : key_size ≤ 64
   pub counted : count ≡ elements (shape_at a m)
   pub ready : Ready a l m s
+
+-- so they do, and the segment's words begin here
+pub record FitsFrom (id : TableId) (a : About) (standing : TableId) (l : Known)
+    (m s key_size count first : ℕ) : Type 0 where
+  pub seated : standing ≡ id
+  pub keyed : key_size ≡ (shape_at a m).key
+  pub small : key_size ≤ 64
+  pub counted : count ≡ elements (shape_at a m)
+  pub ready : Ready a l m s
+  pub begins : first ≡ at a.shape (Stamp m s)
+  pub room : first + 130 ≤ 2 ^ 64
 
 -- the segment that a key would be at home in, by the stamp that was locked
 abbrev pub locked_home : About → Known → ℕ → List ℕ → ℕ

@@ -11,7 +11,7 @@ ghost use Rattle.hop_words.specs.Kinds.{Inserted, IsKeyAbsent, IsWritten, unlock
 ghost use Rattle.hop_words.specs.Locking.{lock_of, hand};
 ghost use Rattle.hop_words.specs.Guarded.{IsGuarded, MayWrite, IsGuardedBeside, IsWordBeside, IsStampBeside};
 ghost use Rattle.hop_words.specs.Sights.{sighted, split_made};
-ghost use Rattle.hop_map.specs.Private.LockedSegment.{IsNoKey, written, SpellsKey, spelled_key};
+ghost use Rattle.hop_map.specs.Private.LockedSegment.{IsNoKey, IsWordAt, written, SpellsKey, spelled_key};
 ghost use Rattle.hop_map.specs.LockedSegment.{knows, Ready, Fits};
 ghost use Rattle.hop_words.specs.declared.known.Change.TheVariants.{Drops};
 ghost use Rattle.hop_map.specs.Private.UnderLock.{LockShows, OffersInsertion};
@@ -45,10 +45,12 @@ pub struct LockedWords<'a> {
     segment: u32,
     key_size: usize,
     elements: u32,
+    // where the segment's words begin: the table would be asked before each step
+    first: usize,
 }
 
 impl<'a> Model for LockedWords<'a> {
-    ghost use Rattle.hop_map.specs.LockedSegment.{Locked, Fits};
+    ghost use Rattle.hop_map.specs.LockedSegment.{Locked, FitsFrom};
 
     ghost Value = { Locked };
 
@@ -60,8 +62,8 @@ impl<'a> Model for LockedWords<'a> {
       segment = s.segment;
     } };
 
-    ghost invariant = { λ s. Fits s.table.now.id s.table.now.about s.lane.table s.lane.known
-        s.map s.segment s.key_size s.elements };
+    ghost invariant = { λ s. FitsFrom s.table.now.id s.table.now.about s.lane.table s.lane.known
+        s.map s.segment s.key_size s.elements s.first };
 }
 
 impl<'a> LockedWords<'a> {
@@ -82,6 +84,7 @@ impl<'a> LockedWords<'a> {
         ensures map { result.map ≡ map }
         ensures segment { result.segment ≡ segment }
     {
+        let first = table.segment_start(map, segment);
         let words = LockedWords {
             table,
             lane,
@@ -89,6 +92,7 @@ impl<'a> LockedWords<'a> {
             segment,
             key_size,
             elements,
+            first,
         };
         let _map = words.map;
         words
@@ -483,6 +487,32 @@ impl<'a> LockedWords<'a> {
         self.lane.read_guarded(self.table, place)
     }
 
+    // Reads a word of the segment, n words after its first.
+    #[inline(always)]
+    fn read_in(&mut self, place: Place, offset: usize) -> u64
+        requires there { is_place self.old.about.shape place ≡ true }
+        requires word { IsWordAt self.old.about self.old.map self.old.segment offset place }
+        ensures value { IsGuarded self.old.about self.old.known place →
+            result ≡ mem self.old.about.shape (lock_of self.old.known).copy place }
+        ensures same { self.new ≡ self.old }
+    {
+        let word = self.first + offset;
+        self.lane.read_guarded_at(self.table, place, word)
+    }
+
+    // Writes a word of the segment, n words after its first.
+    #[inline(always)]
+    fn write_in(&mut self, place: Place, offset: usize, number: u64)
+        requires there { is_place self.old.about.shape place ≡ true }
+        requires word { IsWordAt self.old.about self.old.map self.old.segment offset place }
+        requires may { MayWrite self.old.about self.old.known place }
+        requires no_key { IsNoKey place }
+        ensures written { self.new ≡ written self.old place number }
+    {
+        let word = self.first + offset;
+        self.lane.write_guarded_at(self.table, place, word, number);
+    }
+
     #[inline(always)]
     fn write(&mut self, place: Place, number: u64)
         requires there { is_place self.old.about.shape place ≡ true }
@@ -539,7 +569,7 @@ impl<'a> LockedWords<'a> {
         bytes
     }
 
-    // The home of an element's key of any size, out of line: who hashes one word clears no buffer.
+    // The home of an element's key of any size. Out of line, since a key of one word needs no buffer.
     #[inline(never)]
     fn home_of_bytes(&mut self, element: u32) -> u32
         requires inside { element < elements_of (shape_at self.old.about self.old.map) }
@@ -610,15 +640,18 @@ impl<'a> SegReads for LockedWords<'a> {
     }
 
     fn hop(&mut self, bucket: usize) -> u32 {
-        hop_bits(self.read(hop_place(self.map, self.segment, bucket)))
+        let place = hop_place(self.map, self.segment, bucket);
+        hop_bits(self.read_in(place, 2 + 2 * bucket))
     }
 
     fn slot(&mut self, place: usize) -> Option<u32> {
-        item(self.read(slot_place(self.map, self.segment, place)))
+        let slot = slot_place(self.map, self.segment, place);
+        item(self.read_in(slot, 3 + 2 * place))
     }
 
     fn head(&mut self) -> Option<u32> {
-        item(self.read(head_place(self.map, self.segment)))
+        let place = head_place(self.map, self.segment);
+        item(self.read_in(place, 1))
     }
 
     fn next(&mut self, element: u32) -> Option<u32> {
@@ -659,15 +692,18 @@ impl<'a> SegWords for LockedWords<'a> {
     ghost stays_at_rest = { λ x y p. subst (Stays x) (sym p) (itself x) };
 
     fn set_hop(&mut self, bucket: usize, bits: u32) {
-        self.write(hop_place(self.map, self.segment, bucket), u64::from(bits));
+        let place = hop_place(self.map, self.segment, bucket);
+        self.write_in(place, 2 + 2 * bucket, u64::from(bits));
     }
 
     fn set_slot(&mut self, place: usize, item: Option<u32>) {
-        self.write(slot_place(self.map, self.segment, place), link_word(item));
+        let slot = slot_place(self.map, self.segment, place);
+        self.write_in(slot, 3 + 2 * place, link_word(item));
     }
 
     fn set_head(&mut self, element: Option<u32>) {
-        self.write(head_place(self.map, self.segment), link_word(element));
+        let place = head_place(self.map, self.segment);
+        self.write_in(place, 1, link_word(element));
     }
 
     fn set_next(&mut self, element: u32, following: Option<u32>) {

@@ -1,8 +1,11 @@
 -- Give bit of the old batch, retire, fill word.
 use Rattle.std.proofs.Common.{◌≡◌, ◌≢◌, ℕ, ◌+◌, ◌/◌, ◌%◌, ◌^◌, ◌<◌, ◌≤◌, Bool, true, false, true≢false, List, [], ◌∷◌, Option, ◌==◌, length}
-use Rattle.std.proofs.Common.{set, slice_index, refl, ap, sym, subst, ◌∙◌, arith, eq-eqb, ne_eqb, ⊎_elim, inr, bit_or}
+use Rattle.std.proofs.Common.{set, slice_index, refl, ap, sym, subst, ◌∙◌, arith, eq-eqb, ne_eqb, ⊎_elim, inr, ◌*◌, bit_and, bit_or}
 use Rattle.std.proofs.lemmas.Bool.Decides.{nat_tests}
-use Rattle.std.proofs.lemmas.Nat.Bits.{bit_at_or, bit_at-lt, bit_at-pow_same, bit_at-pow_other}
+use Rattle.std.specs.Int.{bit_at}
+use Rattle.std.proofs.lemmas.Nat.{or_disjoint, or_lt, pow_below}
+use Rattle.std.proofs.lemmas.Nat.Bits.{and_pow, bit_at_or, bit_at-lt, bit_at-pow_same, bit_at-pow_other}
+use Rattle.hop_layout.proofs.Births.{mod_small}
 use Rattle.std.proofs.lemmas.Bool.{cases_lt, cases_eq}
 use Rattle.bpf_shared.specs.Store.{put, as_made}
 use Rattle.bpf_shared.proofs.Puts.{true_or_false}
@@ -17,7 +20,7 @@ use Rattle.hop_words.specs.declared.known.Limbo.{Limbo}
 use Rattle.hop_words.specs.declared.known.Lock.{Lock}
 use Rattle.hop_layout.specs.Layout.{mem, put_at}
 use Rattle.hop_words.specs.Content.{MapWords, words_by_place, one_if, times}
-use Rattle.hop_words.specs.Ghost.{Holder, Free, Leaving, Within, is_filling, is_leaving, lane, Era, Ghost, HasElement, Each, limbo_at, lock_home}
+use Rattle.hop_words.specs.Ghost.{Holder, Free, Leaving, Within, is_free, is_filling, is_leaving, lane, Era, Ghost, HasElement, Each, limbo_at, lock_home}
 use Rattle.hop_words.specs.Rule.{Rule, Chained, link_to, times_limbo, Linked, Segment, Segments, Minded, Holds, Locking}
 use Rattle.bpf_shared.specs.Own.{turns_of, in_run}
 use Rattle.hop_words.specs.Private.Step.{Steps}
@@ -190,6 +193,23 @@ give_old a l m e es even at_e room i ws g sized r is inside fits = record {
         (put2-other g.holder m e m d Free (λ _. ne)) in
         omega arith)
         (cases_eq d e)
+
+-- the bit of an element of the old batch is clear, so to add it is to set it
+pub old_added : (a : About) (w : Place → ℕ) (g : Ghost) (l : Known) (m e : ℕ) (es : List ℕ) → Rule a w g → lane g.lanes l.cpu ≡ l →
+    l.cpu < a.shape.cpus → HasElement a m e → (limbo_at l.limbo m).old ≡ e ∷ es → w (FreeBits m (e / 64)) < 18446744073709551616
+    → (w (FreeBits m (e / 64)) + 2 ^ (e % 64)) % 2 ^ 64 ≡ bit_or (w (FreeBits m (e / 64))) (2 ^ (e % 64))
+old_added a w g l m e es r is inside at_e old fits =
+    let n = w (FreeBits m (e / 64)) in
+    let q = limbo_of g l m is in
+    let in_old : times e (limbo_at (g.lanes.limbo l.cpu) m).old ≡ times e (e ∷ es) = ap (λ (z : Limbo). times e z.old) q ∙ ap (times e) old in
+    let own = times_own e es in
+    let was = in_limbo a _ g.lanes.fresh g.lanes.limbo g.holder l.cpu m e r.owned inside at_e (omega arith) in
+    let clear : bit_at n (e % 64) ≡ 0 = r.owned.bits m e at_e ∙ ap (λ h. one_if (is_free h)) was in
+    let apart : bit_and n (2 ^ (e % 64)) ≡ 0 = and_pow n (e % 64) ∙ (ap (λ (i : ℕ). i * 2 ^ (e % 64)) clear ∙ (omega arith)) in
+    let sum = or_disjoint n (2 ^ (e % 64)) apart in
+    let low : 2 ^ (e % 64) < 2 ^ 64 = pow_below (e % 64) 64 (omega arith) in
+    let small : bit_or n (2 ^ (e % 64)) < 2 ^ 64 = or_lt 64 n (2 ^ (e % 64)) (omega arith) low in
+    ap (λ (i : ℕ). i % 2 ^ 64) (sym sum) ∙ mod_small (bit_or n (2 ^ (e % 64))) (2 ^ 64) small
 
 -- ---- words of elements that the lane has: nobody else minds them
 -- the segments, where links and keys of linked elements are as they were

@@ -27,7 +27,7 @@ use Rattle.hop_words.proofs.Stays.{next_as, stay}
 use Rattle.hop_words.proofs.Owners.{claim_bit, mask_kept}
 use Rattle.hop_words.proofs.Turns.{see_counter_again}
 use Rattle.hop_words.proofs.Hands.{gives}
-use Rattle.hop_words.proofs.Gives.{give_old}
+use Rattle.hop_words.proofs.Gives.{give_old, old_added}
 use Rattle.hop_words.proofs.Publishing.{publish_split}
 use Rattle.hop_words.proofs.Locked.{at_stamp}
 use Rattle.hop_words.proofs.Readings.{AgainSeen, read_more, peek, see_stamp, see_again}
@@ -124,6 +124,16 @@ gives_old a l m e es even at_e room passed = noted_as a l (FreeBits m (e / 64)) 
     (λ ws n x. x ≡ giving_old l m es) (λ ws n l'. l' ≡ sighted (giving_old l m es) (bit_set m e n))
     (λ ws n x fits t. ap (λ (y : Known). sighted y (bit_set m e n)) t)
     (give_old a l m e es even at_e room passed)
+
+-- by a sum, since the bit is clear
+pub adds_old : (a : About) (l : Known) (m e : ℕ) (es : List ℕ) → a.count % 2 ≡ 0 → HasElement a m e → m < length l.limbo → Passed a l m e
+    es → Notes a l (FreeBits m (e / 64)) (λ n. (n + 2 ^ (e % 64)) % 2 ^ 64) (λ ws n l'. l' ≡ sighted (giving_old l m es) (bit_set m e n))
+adds_old a l m e es even at_e room passed ws g sized r is inside fits =
+    let p = FreeBits m (e / 64) in
+    let w = mem a.shape ws in
+    subst (λ (k : ℕ). Noted a (put_at w p k) g l.cpu (sight p (w p) k ∷ []) (λ l'. l' ≡ sighted (giving_old l m es) (bit_set m e (w p))))
+    (sym (old_added a w g l m e es r is inside at_e passed.old fits))
+    (gives_old a l m e es even at_e room passed ws g sized r is inside fits)
 
 pub looks_again : (a : About) (l : Known) (m d : ℕ) → m < length l.limbo → d < length (limbo_at l.limbo m).noted → Notes a l (RunCount d)
     (λ n. n) (λ ws n l'. LooksAgain l m d n l')

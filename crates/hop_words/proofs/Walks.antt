@@ -1,8 +1,10 @@
 -- From a segment on the way of a home to the next.
-use Rattle.std.proofs.Common.{◌≡◌, ℕ, zero, suc, Bool, true, false, if◌then◌else◌, ◌+◌, ◌-◌, ◌*◌, ◌/◌, ◌%◌, ◌^◌, ◌<◌, ◌≤◌, refl, ap, sym, ◌∙◌, arith}
+use Rattle.std.proofs.Common.{◌≡◌, inl, inr, ℕ, zero, suc, Bool, true, false, if◌then◌else◌, ◌+◌, ◌-◌, ◌*◌, ◌/◌, ◌%◌, ◌^◌, ◌<◌, ◌≤◌, refl}
+use Rattle.std.proofs.Common.{ap, sym, subst, ◌∙◌, arith}
 use Rattle.std.specs.Int.{bit_at, w32, trailing_zeros}
-use Rattle.std.proofs.lemmas.Nat.{mod-pow-add, div-add-mod'}
-use Rattle.std.proofs.lemmas.Nat.Bits.{bit_at_cat_high, bit_at-trailing_zeros}
+use Rattle.std.proofs.lemmas.Nat.{mod-pow-add, mod-mul-add, mod_below, div-add-mod'}
+use Rattle.std.proofs.lemmas.Nat.Bits.{bit_at-trailing_zeros}
+use Rattle.std.proofs.lemmas.Bool.{cases_lt}
 use Rattle.hop_layout.specs.Layout.{power}
 use Rattle.hop_words.specs.declared.walking.Way.{Way}
 use Rattle.hop_layout.specs.declared.about.About.{About}
@@ -11,7 +13,6 @@ use Rattle.hop_words.specs.declared.known.Known.{Known}
 use Rattle.hop_words.specs.Ghost.{shape_at}
 use Rattle.hop_words.specs.Kinds.{KnowsBorn, First, Whole}
 use Rattle.hop_words.specs.Walking.{IsOnWay, IsNextSegment}
-use Rattle.std.proofs.Math.Nat.{div-le_self}
 use Rattle.hop_layout.proofs.Depths.{power_is, low_power}
 use Rattle.hop_layout.proofs.Births.{mod_low, mod_small, power_mono}
 use Rattle.hop_layout.proofs.Births.{some_power}
@@ -27,116 +28,130 @@ low_zero n (suc t) none =
     let r = low_zero n t (λ i l. none i (omega arith)) in
     omega arith
 
-module _ (home level : ℕ) where
-  abbrev rest : ℕ
-  rest = home / 2 ^ level
+-- what a home has above the bits of a segment on its way
+module _ (home : ℕ) (way : Way) (on : IsOnWay home way) where
+  abbrev more : ℕ
+  more = home - way.segment
 
-  abbrev t : ℕ
-  t = trailing_zeros w32 rest
+  abbrev k : ℕ
+  k = power way.level
 
-  abbrev s : ℕ
-  s = home % 2 ^ level
+  pub whole : more + way.segment ≡ home
+  whole = let d = div-add-mod' home k in let s = on.1 in omega arith
 
-  whole : rest * 2 ^ level + s ≡ home
-  whole = div-add-mod' home (2 ^ level)
+  lower : more % k ≡ 0
+  lower =
+      let d = div-add-mod' home k in
+      let s = on.1 in
+      let e : more ≡ home / k * k + 0 = omega arith in
+      let o = some_power way.level in
+      ap (λ (i : ℕ). i % k) e ∙ mod-mul-add (home / k) k 0 (omega arith)
 
-  -- no bit more leads on
-  pub same_above : 0 < rest → rest < 2 ^ 32 → home % 2 ^ (level + t) ≡ s
-  same_above some fits =
-      let b = bit_at-trailing_zeros w32 rest some fits in
-      let m = mod-pow-add home t level in
-      let e : level + t ≡ t + level = omega arith in
-      let z : home % 2 ^ (level + t) ≡ home % 2 ^ (t + level) = ap (λ (i : ℕ). home % 2 ^ i) e in
-      let n = low_zero rest t b.2 in
-      let p : (home / 2 ^ level % 2 ^ t) * 2 ^ level ≡ 0 = ap (λ (i : ℕ). i * 2 ^ level) n ∙ (omega arith) in
-      omega arith
+  -- nothing below the depth: the home is the segment's own
+  pub stays : (depth : ℕ) → way.segment < power depth → more % power depth ≡ 0 → home % power depth ≡ way.segment
+  stays depth room none =
+      let d = div-add-mod' more (power depth) in
+      let w = whole in
+      let e : home ≡ more / power depth * power depth + way.segment = omega arith in
+      ap (λ (i : ℕ). i % power depth) e ∙ mod-mul-add (more / power depth) (power depth) way.segment room
 
-  pub one_more : 0 < rest → rest < 2 ^ 32 → home % 2 ^ (level + t + 1) ≡ s + 2 ^ (level + t)
-  one_more some fits =
-      let b = bit_at-trailing_zeros w32 rest some fits in
-      let m = mod-pow-add home 1 (level + t) in
-      let e : level + t + 1 ≡ 1 + (level + t) = omega arith in
-      let z : home % 2 ^ (level + t + 1) ≡ home % 2 ^ (1 + (level + t)) = ap (λ (i : ℕ). home % 2 ^ i) e in
-      let o = some_power level in
-      let pw = power_is level in
-      let h = bit_at_cat_high rest level s (level + t) (omega arith) (omega arith) in
-      let w : bit_at home (level + t) ≡ bit_at (rest * 2 ^ level + s) (level + t) = ap (λ (i : ℕ). bit_at i (level + t)) (sym whole) in
-      let back : level + t - level ≡ t = omega arith in
-      let one : home / 2 ^ (level + t) % 2 ^ 1 ≡ 1 = w ∙ (h ∙ (ap (bit_at rest) back ∙ b.1)) in
-      let p : (home / 2 ^ (level + t) % 2 ^ 1) * 2 ^ (level + t) ≡ 2 ^ (level + t) = ap (λ (i : ℕ). i * 2 ^ (level + t)) one ∙ (omega arith) in
-      let l = same_above some fits in
-      omega arith
+  module _ (depth : ℕ) (some : 0 < more % power depth) (fits : more % power depth < 2 ^ 32) where
+    abbrev ahead : ℕ
+    ahead = more % power depth
 
--- a depth that isn't above the next bit: the home is the segment's own
-pub stays_here : (home level depth segment : ℕ) → home % power level ≡ segment → segment < power depth → 0 < home / 2 ^ level → home / 2 ^
-    level < 2 ^ 32 → depth ≤ level + trailing_zeros w32 (home / 2 ^ level) → home % power depth ≡ segment
-stays_here home level depth segment low room some fits le =
-    let a = same_above home level some fits in
-    let p = power_is level in
-    let q = power_is (level + trailing_zeros w32 (home / 2 ^ level)) in
-    let m = mod_low home depth (level + trailing_zeros w32 (home / 2 ^ level)) le in
-    let h : home % power (level + trailing_zeros w32 (home / 2 ^ level)) ≡ segment = ap (λ (i : ℕ). home % i) q ∙
-    (a ∙ (ap (λ (i : ℕ). home % i) (sym p) ∙ low)) in
-    sym m ∙ (ap (λ (i : ℕ). i % power depth) h ∙ mod_small segment (power depth) room)
+    abbrev t : ℕ
+    t = trailing_zeros w32 ahead
 
--- no bit above the level
-pub stays_whole : (home level depth segment : ℕ) → home % power level ≡ segment → segment < power depth → home / 2 ^ level ≡ 0 → home % power depth ≡ segment
-stays_whole home level depth segment low room none =
-    let w = whole home level in
-    let p = power_is level in
-    let z : home / 2 ^ level * 2 ^ level ≡ 0 = ap (λ (i : ℕ). i * 2 ^ level) none ∙ (omega arith) in
-    let h : home % 2 ^ level ≡ segment = ap (λ (i : ℕ). home % i) (sym p) ∙ low in
-    let e : home ≡ segment = omega arith in
-    ap (λ (i : ℕ). i % power depth) e ∙ mod_small segment (power depth) room
+    low : ahead % 2 ^ t ≡ 0
+    low = low_zero ahead t (bit_at-trailing_zeros w32 ahead some fits).2
 
-pub goes_on : (home : ℕ) (way next : Way) (depth : ℕ) → IsOnWay home way → 0 < home / 2 ^ way.level → home / 2 ^ way.level < 2 ^ 32 →
-    way.level + trailing_zeros w32 (home / 2 ^ way.level) < depth
-    → next.level ≡ way.level + trailing_zeros w32 (home / 2 ^ way.level) + 1 → next.segment ≡ way.segment + 2 ^
-    (way.level + trailing_zeros w32 (home / 2 ^ way.level)) → IsOnWay home next × IsNextSegment way depth next
-goes_on home way next depth on some fits less lev seg = (
-  (small, here),
-  (u, lev, less, omega arith, below, seg ∙ ap (λ (i : ℕ). way.segment + i) (sym (power_is u))),
-)
+    lowest : ahead % power (suc t) ≡ 2 ^ t
+    lowest =
+        let b = bit_at-trailing_zeros w32 ahead some fits in
+        let m = mod-pow-add ahead 1 t in
+        let e : suc t ≡ 1 + t = omega arith in
+        let z : ahead % power (suc t) ≡ ahead % 2 ^ (1 + t) = ap (λ (i : ℕ). ahead % i) (power_is (suc t) ∙ ap (λ (i : ℕ). 2 ^ i) e) in
+        let p : (ahead / 2 ^ t % 2 ^ 1) * 2 ^ t ≡ 2 ^ t = ap (λ (i : ℕ). i * 2 ^ t) b.1 ∙ (omega arith) in
+        let l = low in
+        omega arith
+
+    pub less : t < depth
+    less = elim (cases_lt t depth) [
+      | inl lt ↦ lt
+      | inr ge ↦ (let u = power_mono depth t ge in
+          let q = power_is t in
+          let o = some_power depth in
+          let below : ahead < power depth = mod_below more (power depth) (omega arith) in
+          let same : ahead % 2 ^ t ≡ ahead = mod_small ahead (2 ^ t) (omega arith) in
+          let l = low in
+          absurd (omega arith))
+    ]
+
+    first : more % power (suc t) ≡ 2 ^ t
+    first = sym (mod_low more (suc t) depth less) ∙ lowest
+
+    pub above : way.level ≤ t
+    above = elim (cases_lt t way.level) [
+      | inl lt ↦ (let z : more % power (suc t) ≡ 0 % power (suc t) = sym (mod_low more (suc t) way.level lt) ∙ ap (λ (i : ℕ). i % power (suc t)) lower in
+          let o = some_power (suc t) in
+          let n : 0 % power (suc t) ≡ 0 = mod_small 0 (power (suc t)) (omega arith) in
+          let f = first in
+          let q = power_is t in
+          let r = some_power t in
+          absurd (omega arith))
+      | inr ge ↦ ge
+    ]
+
+    pub below : way.segment < power t
+    below = let u = power_mono way.level t above in let z = on.0 in omega arith
+
+    pub goes_on : (next : Way) → next.level ≡ t + 1 → next.segment ≡ way.segment + 2 ^ t → IsOnWay home next × IsNextSegment way depth next
+    goes_on next lev seg = (
+      (small, here),
+      (t, lev, less, above, below, seg ∙ ap (λ (i : ℕ). way.segment + i) (sym (power_is t))),
+    )
+      where
+        double : power next.level ≡ 2 * power t
+        double = let e : next.level ≡ suc t = lev ∙ (omega arith) in ap power e
+
+        small : next.segment < power next.level
+        small = let z = double in let y = power_is t in let x = below in omega arith
+
+        here : home % power next.level ≡ next.segment
+        here =
+            let z : more % power next.level ≡ 2 ^ t = (let e : next.level ≡ suc t = lev ∙ (omega arith) in ap (λ (i : ℕ). more % power i) e ∙ first) in
+            let d = div-add-mod' more (power next.level) in
+            let w = whole in
+            let e : home ≡ more / power next.level * power next.level + next.segment = omega arith in
+            ap (λ (i : ℕ). i % power next.level) e ∙ mod-mul-add (more / power next.level) (power next.level) next.segment small
+
+    pub bit_fits : depth ≤ 10 → (1 * 2 ^ t % 4294967296 ≡ 2 ^ t) × (2 ^ t ≤ 1024)
+    bit_fits few =
+        let l = less in
+        let p = low_power t (omega arith) in
+        (omega arith, p)
+
+-- as the code has it, where the power is a shifted bit
+pub leads : (home : ℕ) (way next : Way) (depth bit : ℕ) → IsOnWay home way → depth ≤ 10 → bit ≡ power depth → 0 < (home - way.segment) % bit
+    → next.level ≡ trailing_zeros w32 ((home - way.segment) % bit) + 1
+    → next.segment ≡ way.segment + 1 * 2 ^ trailing_zeros w32 ((home - way.segment) % bit) % 4294967296
+    → IsOnWay home next × IsNextSegment way depth next
+leads home way next depth bit on few is = subst P (sym is) go
   where
-    u : ℕ
-    u = way.level + trailing_zeros w32 (home / 2 ^ way.level)
+    P : ℕ → Type 0
+    P b = 0 < (home - way.segment) % b → next.level ≡ trailing_zeros w32 ((home - way.segment) % b) + 1
+        → next.segment ≡ way.segment + 1 * 2 ^ trailing_zeros w32 ((home - way.segment) % b) % 4294967296
+        → IsOnWay home next × IsNextSegment way depth next
 
-    up : power way.level ≤ power u
-    up = power_mono way.level u (omega arith)
-
-    below : way.segment < power u
-    below = let z = on.0 in let y = up in omega arith
-
-    double : power next.level ≡ 2 * power u
-    double = let e : next.level ≡ suc u = lev ∙ (omega arith) in ap power e
-
-    small : next.segment < power next.level
-    small = let z = double in let y = power_is u in let x = below in omega arith
-
-    here : home % power next.level ≡ next.segment
-    here =
-        let o = one_more home way.level some fits in
-        let p = power_is next.level in
-        let e : power next.level ≡ 2 ^ (u + 1) = p ∙ ap (λ (i : ℕ). 2 ^ i) lev in
-        let s : home % 2 ^ way.level ≡ way.segment = ap (λ (i : ℕ). home % i) (sym (power_is way.level)) ∙ on.1 in
-        ap (λ (i : ℕ). home % i) e ∙ (o ∙ ((ap (λ (i : ℕ). i + 2 ^ u) s) ∙ sym seg))
-
-pub quotient_fits : (home level : ℕ) → home < 2 ^ 32 → home / 2 ^ level < 2 ^ 32
-quotient_fits home level fits = let l : home / 2 ^ level ≤ home = div-le_self home (2 ^ level) in omega arith
-
--- the code's sum is the next segment
-pub bit_fits : (home : ℕ) (way : Way) (depth : ℕ) → IsOnWay home way → 0 < home / 2 ^ way.level → home / 2 ^ way.level < 2 ^ 32 → depth ≤ 10
-    → way.level + trailing_zeros w32 (home / 2 ^ way.level) < depth
-    → (1 * 2 ^ (way.level + trailing_zeros w32 (home / 2 ^ way.level)) % 4294967296 ≡ 2 ^
-    (way.level + trailing_zeros w32 (home / 2 ^ way.level))) × (way.segment < 1024) ×
-    (2 ^ (way.level + trailing_zeros w32 (home / 2 ^ way.level)) ≤ 1024)
-bit_fits home way depth on some fits few less =
-    let u : ℕ = way.level + trailing_zeros w32 (home / 2 ^ way.level) in
-    let p = low_power u (omega arith) in
-    let l = low_power way.level (omega arith) in
-    let e = power_is way.level in
-    let r = on.0 in
-    (omega arith, omega arith, p)
+    go : P (power depth)
+    go some lev seg =
+        let q = power_is depth in
+        let l = low_power depth few in
+        let o = some_power depth in
+        let b : (home - way.segment) % power depth < power depth = mod_below (home - way.segment) (power depth) (omega arith) in
+        let fits : (home - way.segment) % power depth < 2 ^ 32 = omega arith in
+        let f = bit_fits home way on depth some fits few in
+        goes_on home way on depth some fits next lev (seg ∙ ap (λ (i : ℕ). way.segment + i) f.0)
 
 -- ---- where the way begins
 -- as made a map has one segment, or all

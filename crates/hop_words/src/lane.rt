@@ -2,7 +2,7 @@
 //! made of.
 ghost use Rattle.std.specs.Prelude.{◌≡◌, ◌==◌, true, [], ℕ, ◌+◌, ◌%◌, ◌^◌, bit_and, bit_or, bit_xor};
 ghost use prog.Atomic.{either};
-ghost use Rattle.hop_layout.specs.Layout.{is_place};
+ghost use Rattle.hop_layout.specs.Layout.{is_place, at};
 ghost use Rattle.hop_words.specs.Private.Step.{solo, IsQuiet, Unlocks, IsBesideStamp, IsSplit, Steps, Notes, NotesTaken, first_lane};
 ghost use Rattle.hop_words.specs.Inside.{nobody};
 
@@ -269,6 +269,53 @@ impl Lane {
     }
 }
 
+// Steps whose caller says where the place's word is.
+impl Lane {
+    #[inline(always)]
+    pub(crate) fn load_at<E: Tell, T: Copy>(
+        &mut self,
+        table: &HopTable,
+        place: Place,
+        word: usize,
+        _said: T,
+    ) -> u64
+        requires table { self.old.table ≡ table.now.id }
+        requires place { is_place table.now.about.shape place ≡ true }
+        requires word { word ≡ at table.now.about.shape place }
+        requires step { Steps table.now.about self.old.known place (λ n. n) (λ ws n l. E.told n l) }
+        ensures table { self.new.table ≡ self.old.table }
+        ensures told { E.told result self.new.known }
+    {
+        let _place = place;
+        table.table.shared.load::<Told<E>>(&mut self.seat, word)
+    }
+
+    #[inline(always)]
+    pub(crate) fn store_at<E: Tell, T: Copy>(
+        &mut self,
+        table: &HopTable,
+        place: Place,
+        word: usize,
+        new: u64,
+        _said: T,
+    )
+        requires table { self.old.table ≡ table.now.id }
+        requires place { is_place table.now.about.shape place ≡ true }
+        requires word { word ≡ at table.now.about.shape place }
+        requires quiet { IsQuiet place }
+        requires step { Steps table.now.about self.old.known place (λ _. new)
+            (λ ws n l. E.told new l) }
+        ensures table { self.new.table ≡ self.old.table }
+        ensures told { E.told new self.new.known }
+    {
+        let _place = place;
+        table
+            .table
+            .shared
+            .store::<Told<E>>(&mut self.seat, word, new);
+    }
+}
+
 // The unlock, and the stamp of a segment that isn't born: the steps that store a stamp unnoted.
 impl Lane {
     #[inline(always)]
@@ -382,6 +429,28 @@ impl Lane {
             .table
             .shared
             .fetch_or::<Told<E>>(&mut self.seat, word, mask)
+    }
+
+    #[inline(always)]
+    pub(crate) fn add_noted<E: Tell, T: Copy>(
+        &mut self,
+        table: &HopTable,
+        place: Place,
+        more: u64,
+        _said: T,
+    ) -> u64
+        requires table { self.old.table ≡ table.now.id }
+        requires place { is_place table.now.about.shape place ≡ true }
+        requires step { Notes table.now.about self.old.known place (λ n. (n + more) % 2 ^ 64)
+            (λ ws n l. E.told n l) }
+        ensures table { self.new.table ≡ self.old.table }
+        ensures told { E.told result self.new.known }
+    {
+        let word = table.word_of(place);
+        table
+            .table
+            .shared
+            .fetch_add::<Told<E>>(&mut self.seat, word, more)
     }
 
     #[inline(always)]

@@ -72,7 +72,8 @@ impl Lane {
         self.or_noted::<Brand, _>(table, Place::FreeBits { map, word }, bit, (map, element));
     }
 
-    /// Gives back the first element of the old batch, which no running CPU can hold.
+    /// Gives back the first element of the old batch, which no running CPU can hold. Its bit is
+    /// clear, so one fetch-add sets it.
     pub fn give_old_bit(&mut self, table: &HopTable, map: u8, element: u32)
         requires table { self.old.table ≡ table.now.id }
         requires element { HasElement table.now.about map element }
@@ -85,7 +86,7 @@ impl Lane {
     {
         let word = element / 64;
         let bit = bit_of(element);
-        self.or_noted::<Brand, _>(table, Place::FreeBits { map, word }, bit, (map, element));
+        self.add_noted::<Brand, _>(table, Place::FreeBits { map, word }, bit, (map, element));
     }
 
     /// Writes the next word of the key of the element in hand.

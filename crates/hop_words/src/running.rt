@@ -22,28 +22,28 @@ impl Lane {
 
     /// The CPU's own counter. It isn't noted: so it is there only for a CPU that is in no run, or
     /// that has an old batch.
-    pub fn see_own_counter(&mut self, table: &HopTable) -> u64
+    pub fn see_own_counter(&mut self, table: &HopTable, cpu: u8) -> u64
         requires table { self.old.table ≡ table.now.id }
+        requires own { cpu ≡ self.old.known.cpu }
         requires apart { IsIdleOrKeeps self.old.known }
         requires inside { self.old.known.cpu < table.now.about.shape.cpus }
         ensures table { self.new.table ≡ self.old.table }
         ensures count { result ≡ run_count table.now.about self.old.known }
         ensures same { self.new.known ≡ self.old.known }
     {
-        let cpu = self.cpu();
         self.load_by::<Brand, _>(table, Place::RunCount { cpu }, ())
     }
 
     /// The CPU enters a run: its counter goes up by one fetch-add.
-    pub fn count_begin(&mut self, table: &HopTable)
+    pub fn count_begin(&mut self, table: &HopTable, cpu: u8)
         requires table { self.old.table ≡ table.now.id }
+        requires own { cpu ≡ self.old.known.cpu }
         requires inside { self.old.known.cpu < table.now.about.shape.cpus }
         requires idle { in_run (events_of self.old.known.cpu self.old.known.seen) ≡ false }
         requires room { run_count table.now.about self.old.known + 1 < 2 ^ 64 }
         ensures table { self.new.table ≡ self.old.table }
         ensures begun { AddsEvent table.now.about self.old.known Begin self.new.known }
     {
-        let cpu = self.cpu();
         self.add_by::<Brand, _>(table, Place::RunCount { cpu }, 1, ());
     }
 

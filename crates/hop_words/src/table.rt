@@ -38,12 +38,13 @@ impl Model for HopTable {
 }
 
 impl HopTable {
-    ghost use Rattle.std.specs.Prelude.{◌≡◌, ◌<◌, ◌≤◌, ◌%◌, true, length};
+    ghost use Rattle.std.specs.Prelude.{◌≡◌, ◌<◌, ◌≤◌, ◌%◌, ◌+◌, ◌^◌, true, length};
     ghost use Rattle.hop_words.specs.declared.known.Known.{Known};
     ghost use Rattle.hop_words.specs.Kinds.{KnowsBorn};
     ghost use Rattle.hop_words.specs.Walking.{IsOnWay};
     ghost use Rattle.hop_words.specs.Ghost.{shape_at, IsSegment};
     ghost use Rattle.hop_layout.specs.Layout.{is_place, at, first_depth};
+    ghost use Rattle.hop_layout.specs.declared.place.Place.TheVariants.{Stamp};
 
     /// What the store was given when it was made.
     pub fn about(&self) -> &About
@@ -67,6 +68,17 @@ impl HopTable {
             segment: self.index.first_segment(map, home),
             level: self.index.first_depth_of(map),
         }
+    }
+
+    /// Where the words of a segment begin.
+    #[inline(always)]
+    pub fn segment_start(&self, map: u8, segment: u32) -> usize
+        requires inside { IsSegment self.now.about map segment }
+        ensures word { result ≡ at self.now.about.shape (Stamp map segment) }
+        ensures room { result + 130 ≤ 2 ^ 64 }
+    {
+        let _words = self.index.words();
+        self.word_of(Place::Stamp { map, segment })
     }
 
     // Where the word of a place is.

@@ -21,14 +21,11 @@ pub fn towards(home: u32, way: Way, depth: u32) -> Option<Way>
     ensures way { MatchOption result (home % power depth ≡ way.segment)
         (λ next. IsOnWay home next × IsNextSegment way depth next) }
 {
-    let rest = home >> way.level;
-    if rest == 0 {
+    let ahead = (home - way.segment) % (1 << depth);
+    if ahead == 0 {
         return None;
     }
-    let bit = way.level + rest.trailing_zeros();
-    if bit >= depth {
-        return None;
-    }
+    let bit = ahead.trailing_zeros();
     Some(Way {
         segment: way.segment + (1 << bit),
         level: bit + 1,

@@ -1,11 +1,11 @@
 -- What the code of one segment sees of the shared words.
-use Rattle.std.specs.Prelude.{◌≡◌, ℕ, ◌%◌, ◌^◌, ◌<◌, Bool, false, List, take}
+use Rattle.std.specs.Prelude.{◌≡◌, ℕ, ◌+◌, ◌%◌, ◌^◌, ◌<◌, Bool, false, List, take}
 use Rattle.bpf_shared.specs.Shape.{elements}
 use Rattle.hop_layout.specs.declared.about.About.{About}
 use Rattle.hop_words.specs.declared.known.Known.{Known}
-use Rattle.hop_layout.specs.Layout.{words_for, mem, same_place}
+use Rattle.hop_layout.specs.Layout.{words_for, at, mem, same_place}
 use Rattle.hop_layout.specs.declared.place.Place.{Place}
-use Rattle.hop_layout.specs.declared.place.Place.TheVariants.{KeyWord}
+use Rattle.hop_layout.specs.declared.place.Place.TheVariants.{KeyWord, Stamp}
 use Rattle.hop_layout.specs.Words.{bytes_of_words, word_of}
 use Rattle.hop_words.specs.Content.{MapWords, item}
 use Rattle.hop_words.specs.Depths.{stamp_depth}
@@ -48,6 +48,10 @@ seen_words x = locked_view x.about x.known x.map x.segment
 -- it is no word of a key
 abbrev pub IsNoKey : Place → Type 0
 IsNoKey p = (m e k : ℕ) → same_place (KeyWord m e k) p ≡ false
+
+-- the place's word is this one of the segment's 130, the first of which is its stamp
+abbrev pub IsWordAt : About → ℕ → ℕ → ℕ → Place → Type 0
+IsWordAt a m s offset p = (offset < 130) × (at a.shape (Stamp m s) + offset ≡ at a.shape p)
 
 abbrev pub written : Locked → Place → ℕ → Locked
 written x p n = record x { known = writing x.about x.known (lock_of x.known) p n }

@@ -78,3 +78,10 @@ pub record Walking (a : About) (l : Known) (m home : ℕ) (w : Way) (i : ℕ) (l
     pub way : IsOnWay home w
     pub level : w.level ≤ 10
     pub so_far : i ≤ w.level
+
+-- also the stamp of the segment was noted, after which the CPU knows this
+pub record StampOnWay (a : About) (l : Known) (m home : ℕ) (w : Way) (i n : ℕ) (l' : Known) :
+    Type 0 where
+  pub before : Known
+  pub walking : Walking a l m home w i before
+  pub noted : StampNoted a before m w.segment n l'

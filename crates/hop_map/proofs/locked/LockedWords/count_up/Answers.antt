@@ -42,6 +42,8 @@ invariant_of-self c =
       keyed = c.self.invariant.keyed;
       small = c.self.invariant.small;
       counted = c.self.invariant.counted;
+      begins = c.self.invariant.begins;
+      room = c.self.invariant.room;
       ready = by_answer c.count_up.result (Ready i.table.now.about c.count_up.new.self.known i.map i.segment)
           (λ said. counted_ready i.table.now.about l i.map i.segment c.self.invariant.ready c.args.request.now.key.now
           c.args.request.now.value.now c.args.request.now.flags c.args.element

@@ -16,6 +16,8 @@ invariant_of-self c =
       keyed = c.self.invariant.keyed;
       small = c.self.invariant.small;
       counted = c.self.invariant.counted;
+      begins = c.self.invariant.begins;
+      room = c.self.invariant.room;
       ready = lack_ready i.table.now.about i.lane.known i.map i.segment c.self.invariant.ready c.args.request.now.key.now
           c.args.request.now.value.now c.args.request.now.flags
           c.see_count_lacking-count.result c.see_count_lacking-count.new.self.known c.see_count_lacking-count.ensures.seen;

@@ -12,6 +12,8 @@ invariant_of-self c = let i = c.self.inside in record {
   keyed = c.self.invariant.keyed;
   small = c.self.invariant.small;
   counted = c.self.invariant.counted;
+  begins = c.self.invariant.begins;
+  room = c.self.invariant.room;
   ready = subst (λ (l : Known). Ready i.table.now.about l i.map i.segment) (sym c.write_beside.ensures.written)
       (written_ready i.table.now.about i.lane.known i.map i.segment c.args.place c.args.number c.self.invariant.ready
       (ap (λ (x : Locked). is_place x.about.shape c.args.place) c.self.view_is ∙ c.requires.there) c.requires.no_key);

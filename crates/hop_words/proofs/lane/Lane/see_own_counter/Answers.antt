@@ -7,5 +7,5 @@ use Rattle.hop_words.proofs.lane.Lane.see_own_counter.Goals as goal
 
 pub load_by-requires-clause-step : goal.load_by-requires-clause-step
 load_by-requires-clause-step c = subst (λ (d : ℕ). Steps c.args.table.now.about c.args.self.now.known (RunCount d) (λ n. n)
-    (λ ws n l. (n ≡ run_count c.args.table.now.about c.args.self.now.known) × (l ≡ c.args.self.now.known))) (sym c.cpu-cpu.ensures)
+    (λ ws n l. (n ≡ run_count c.args.table.now.about c.args.self.now.known) × (l ≡ c.args.self.now.known))) (sym c.requires.own)
     (see_own_count c.args.table.now.about c.args.self.now.known)
