@@ -68,7 +68,7 @@ went w c j task state left answer z two g = settle g.1 left two g.6 g.7
         inr (end, not_none a.1 n g.3 state end w.store.shape g.0 a.0 a.2 some a.4, lists_jobs (with_end (record w { store = g.2 }) j task end s.0) c z s.3)
 
 -- ---- steps left, of each job in hand
-abbrev HasSteps : List Task → (ℕ → ℕ) → ℕ → Type 0
+abbrev pub HasSteps : List Task → (ℕ → ℕ) → ℕ → Type 0
 HasSteps jobs ahead depth = (c j : ℕ) (task : Task) (state : Cpu) (left : ℕ) → IsAt jobs c j task (InHand state left) → task.budget + ahead c ≤ left + depth
 
 module _ (jobs news : List Task) (c j : ℕ) (task : Task) (stage : Stage) (at : IsAt jobs c j task stage)
@@ -145,30 +145,95 @@ precedes_budget programs n old new (inl a) = ap (λ (t : Task). t.budget) a.0
 precedes_budget programs n old new (inr a) = ap (λ (t : Task). t.budget) a.7
 
 -- ---- worlds of which something is true by a number, and each number has a depth
--- the CPU's turn, with n turns of it that no store sees, leads from the i-th to one that is deeper
-abbrev pub DeeperBy : (ℕ → World → Type 0) → List ℕ → ℕ → ℕ → Type 0
-DeeperBy P depths i c = (k : ℕ) × (n : ℕ) × LeadsBy (P i) (λ h u. (turns_in h ≡ n) × Richly (P k) u) c × (depth_at depths i + n + 1 ≤ depth_at depths k)
+-- the CPU's turn, with n turns of it that no store sees, leads from the i-th to what is so of one that is
+-- deeper
+abbrev pub DeeperBy : (P C : ℕ → World → Type 0) → List ℕ → ℕ → ℕ → Type 0
+DeeperBy P C depths i c = (k : ℕ) × (n : ℕ) × LeadsBy (P i) (λ h u. (turns_in h ≡ n) × C k u) c × (depth_at depths i + n + 1 ≤ depth_at depths k)
 
 -- the i-th is less deep than each budget, and each CPU with work leads deeper
-pub record IsSparingBy (P : ℕ → World → Type 0) (depths : List ℕ) (least i : ℕ) (v : World) : Type 0 where
+pub record IsSparingBy (P C : ℕ → World → Type 0) (depths : List ℕ) (least i : ℕ) (v : World) : Type 0 where
   pub depth : depth_at depths i < least
   pub budgets : (j : ℕ) (task : Task) → slice_get v.jobs j ≡ Some task → least ≤ task.budget
-  pub turns : (c : ℕ) → (IsFree v.jobs c × NoneWaits v.jobs c) ⊎ DeeperBy P depths i c
+  pub turns : (c : ℕ) → (IsFree v.jobs c × NoneWaits v.jobs c) ⊎ DeeperBy P C depths i c
 
-module _ (P : ℕ → World → Type 0) (depths : List ℕ) (least : ℕ) (sparing : (i : ℕ) (v : World) → P i v → IsSparingBy P depths least i v) where
-  -- the i-th is true of the world, but for richer jobs and turns ahead, and each job in hand has as many
-  -- steps left as its budget, but for those of the depth
-  pub record IsSpared (z : World) : Type 0 where
-    pub i : ℕ
-    pub v : World
-    pub headways : ℕ → Headway
-    pub jobs : List Task
-    pub rich : AsRich z.jobs jobs
-    pub shown : P i v
-    pub same : with_jobs v jobs ≡ with_jobs z jobs
-    pub ahead : IsAheadOf (IsAhead headways) headways jobs v
-    pub steps : HasSteps z.jobs (λ c. turns_in (headways c)) (depth_at depths i)
-    pub none : NoneRanOut z.jobs
+-- the i-th is true of the world, but for richer jobs and turns ahead, and each job in hand has as many
+-- steps left as its budget, but for those of the depth
+pub record IsSparedBy (P : ℕ → World → Type 0) (depths : List ℕ) (z : World) : Type 0 where
+  pub i : ℕ
+  pub v : World
+  pub headways : ℕ → Headway
+  pub jobs : List Task
+  pub rich : AsRich z.jobs jobs
+  pub shown : P i v
+  pub same : with_jobs v jobs ≡ with_jobs z jobs
+  pub ahead : IsAheadOf (IsAhead headways) headways jobs v
+  pub steps : HasSteps z.jobs (λ c. turns_in (headways c)) (depth_at depths i)
+  pub none : NoneRanOut z.jobs
+
+-- something else is true of that world
+pub spared_so : (P Q : ℕ → World → Type 0) (depths : List ℕ) (z : World) (s : IsSparedBy P depths z) → Q s.i s.v → IsSparedBy Q depths z
+spared_so P Q depths z s shown = record {
+  i = s.i;
+  v = s.v;
+  headways = s.headways;
+  jobs = s.jobs;
+  rich = s.rich;
+  shown = shown;
+  same = s.same;
+  ahead = s.ahead;
+  steps = s.steps;
+  none = s.none;
+}
+
+-- with richer jobs
+abbrev pub Richer : (ℕ → World → Type 0) → ℕ → World → Type 0
+Richer P k u = Richly (P k) u
+
+pub spared_rich : (P : ℕ → World → Type 0) (depths : List ℕ) (z : World) → IsSparedBy (Richer P) depths z → IsSparedBy P depths z
+spared_rich P depths z s =
+    let e = enriched_by (with_jobs z s.jobs) s.v s.headways s.shown.0 s.shown.1 s.same s.ahead in
+    record {
+      i = s.i;
+      v = with_jobs s.v s.shown.0;
+      headways = s.headways;
+      jobs = e.0;
+      rich = rich_again z.jobs s.jobs e.0 s.rich e.1;
+      shown = s.shown.2;
+      same = e.2;
+      ahead = e.3;
+      steps = s.steps;
+      none = s.none;
+    }
+
+-- before the first turn
+pub first_spared : (P : ℕ → World → Type 0) (depths : List ℕ) (i : ℕ) (w : World) → IsFresh w → P i w → IsSparedBy P depths w
+first_spared P depths i w fresh shown = record {
+  i = i;
+  v = w;
+  headways = none_is_ahead;
+  jobs = w.jobs;
+  rich = all_same w.jobs;
+  shown = shown;
+  same = refl;
+  ahead = nobody_ahead w;
+  steps = λ c j task state left there. (
+      let waits = fresh.waits j task there.listed in
+      let no : Waiting waits.0 ≡ InHand state left = sym waits.1 ∙ there.at in cc);
+  none = λ j task pc there ended. (
+      let waits = fresh.waits j task there in
+      let no : Waiting waits.0 ≡ Ended (OutOfBudget pc) = sym waits.1 ∙ ended in cc);
+}
+
+module _ (P C : ℕ → World → Type 0) (depths : List ℕ) (least : ℕ) (stays : (k : ℕ) (u : World) → P k u → C k u)
+    (low : (k : ℕ) (u : World) → C k u → depth_at depths k < least) (sparing : (i : ℕ) (v : World) → P i v → IsSparingBy P C depths least i v) where
+  abbrev IsSpared : World → Type 0
+  IsSpared = IsSparedBy P depths
+
+  abbrev IsSparedThere : World → Type 0
+  IsSparedThere = IsSparedBy C depths
+
+  stays_spared : (z : World) → IsSpared z → IsSparedThere z
+  stays_spared z s = spared_so P C depths z s (stays s.i s.v s.shown)
 
   module _ (z : World) (s : IsSpared z) where
     least_is : (j : ℕ) (task : Task) → slice_get z.jobs j ≡ Some task → least ≤ task.budget
@@ -186,27 +251,27 @@ module _ (P : ℕ → World → Type 0) (depths : List ℕ) (least : ℕ) (spari
     p = with_jobs z s.jobs
 
     -- the CPU's turn leads to what the k-th shows so
-    module _ (k : ℕ) (other : Turn) (p' u : World) (h : Headway) (taken : TakesTurn p c other p') (shown : Richly (P k) u)
+    module _ (k : ℕ) (other : Turn) (p' u : World) (h : Headway) (taken : TakesTurn p c other p') (shown : C k u)
         (same : with_jobs u p'.jobs ≡ p') (ahead : IsAheadOf (IsAhead (now s.headways c h)) (now s.headways c h) p'.jobs u)
         (more : depth_at depths s.i ≤ depth_at depths k)
         (hand : (j : ℕ) (task : Task) (state : Cpu) (left : ℕ) → IsAt z.jobs c j task (InHand state left) → (2 ≤ left) ×
         (task.budget + turns_in h + 1 ≤ left + depth_at depths k))
         (begun : (j : ℕ) (task : Task) (input : Input) → IsFree z.jobs c → IsAt z.jobs c j task (Waiting input) → (2 ≤ task.budget) ×
         (task.budget + turns_in h + 1 ≤ task.budget + depth_at depths k)) where
-      there : (steps : HasSteps z'.jobs (λ d. turns_in (now s.headways c h d)) (depth_at depths k)) → NoneRanOut z'.jobs → IsSpared z'
+      there : (steps : HasSteps z'.jobs (λ d. turns_in (now s.headways c h d)) (depth_at depths k)) → NoneRanOut z'.jobs → IsSparedThere z'
       there steps none =
           let r = rich_turn z s.jobs c answer z' s.rich progress none in
           let one = (one_turn law begins replies p c other answer p' (with_jobs z' r.0) (rich_world z s.jobs s.rich world) taken r.1).worlds in
-          let e = enriched_by p' u (now s.headways c h) shown.0 shown.1 same ahead in
+          let new = now s.headways c h in
           record {
             i = k;
-            v = with_jobs u shown.0;
-            headways = now s.headways c h;
-            jobs = e.0;
-            rich = rich_again z'.jobs r.0 e.0 r.2 (subst (λ (ts : List Task). AsRich ts e.0) (ap (λ (x : World). x.jobs) one) e.1);
-            shown = shown.2;
-            same = e.2 ∙ ap (λ (x : World). with_jobs x e.0) one;
-            ahead = e.3;
+            v = u;
+            headways = new;
+            jobs = r.0;
+            rich = r.2;
+            shown = shown;
+            same = subst (λ (x : World). with_jobs u x.jobs ≡ x) one same;
+            ahead = subst (λ (x : World). IsAheadOf (IsAhead new) new x.jobs u) one ahead;
             steps = steps;
             none = none;
           }
@@ -217,7 +282,7 @@ module _ (P : ℕ → World → Type 0) (depths : List ℕ) (least : ℕ) (spari
       at_c : turns_in h ≡ turns_in (now s.headways c h c)
       at_c = ap turns_in (sym (now_is s.headways c h))
 
-      spared_by : TakesTurn z c answer z' → IsSpared z'
+      spared_by : TakesTurn z c answer z' → IsSparedThere z'
       spared_by (inl (j, task, state, left, at, g)) =
           let bound = hand j task state left at in
           let only : (k : ℕ) (other : Task) (now : Cpu) (rest : ℕ) → IsAt z.jobs c k other (InHand now rest) → k ≡ j = λ k other now rest
@@ -241,9 +306,9 @@ module _ (P : ℕ → World → Type 0) (depths : List ℕ) (least : ℕ) (spari
           there (steps_after z.jobs z'.jobs c j task (Waiting a.2) at only (λ d. turns_in (s.headways d))
           (λ d. turns_in (now s.headways c h d)) others (depth_at depths s.i) (depth_at depths k) task.budget more s.steps enough w)
           (none_after z.jobs z'.jobs c j task (Waiting a.2) at only task.budget s.none w)
-      spared_by (inr (inr a)) = subst IsSpared (sym a.3) s
+      spared_by (inr (inr a)) = subst IsSparedThere (sym a.3) (stays_spared z s)
 
-    sparing_here : IsSparingBy P depths least s.i s.v
+    sparing_here : IsSparingBy P C depths least s.i s.v
     sparing_here = sparing s.i s.v s.shown
 
     -- a job in hand of what the kept machine shows is in hand
@@ -262,13 +327,13 @@ module _ (P : ℕ → World → Type 0) (depths : List ℕ) (least : ℕ) (spari
             back old a.1 a.2 (record { listed = listed; of = ap (λ (t : Task). t.cpu) (sym a.7) ∙ at.of; at = a.6 })
 
     -- the turn was made ahead
-    was_made : (n : ℕ) → s.headways c ≡ Turns (suc n) → IsSpared z'
+    was_made : (n : ℕ) → s.headways c ≡ Turns (suc n) → IsSparedThere z'
     was_made n many =
         let r = comes_made p c s.v s.headways s.same s.ahead n many in
         let fits = subst (λ (h : Headway). FitsHeadway s.v.jobs c h) many (s.ahead.fits c (n, many)) in
         let deep = sparing_here.depth in
         let made : turns_in (s.headways c) ≡ suc n = ap turns_in many in
-        spared_by s.i turn.Ran r.0 s.v (Turns n) r.1 (s.v.jobs, all_same s.v.jobs, s.shown) r.2 r.3 (omega arith)
+        spared_by s.i turn.Ran r.0 s.v (Turns n) r.1 (stays s.i s.v s.shown) r.2 r.3 (omega arith)
         (λ j task state left at. (
         let budget = least_is z s j task at.listed in
         let steps : task.budget + turns_in (s.headways c) ≤ left + depth_at depths s.i = s.steps c j task state left at in
@@ -277,7 +342,7 @@ module _ (P : ℕ → World → Type 0) (depths : List ℕ) (least : ℕ) (spari
         progress
 
     -- the CPU has no work in it
-    was_idle : IsFree s.v.jobs c → NoneWaits s.v.jobs c → IsSpared z'
+    was_idle : IsFree s.v.jobs c → NoneWaits s.v.jobs c → IsSparedThere z'
     was_idle free none = go progress
       where
         free_p : IsFree s.jobs c
@@ -286,19 +351,19 @@ module _ (P : ℕ → World → Type 0) (depths : List ℕ) (least : ℕ) (spari
         none_p : NoneWaits s.jobs c
         none_p = none_behind s.v.programs (λ d. turns_in (s.headways d)) s.jobs s.v.jobs s.ahead.each c none
 
-        go : TakesTurn z c answer z' → IsSpared z'
+        go : TakesTurn z c answer z' → IsSparedThere z'
         go (inl (j, task, state, left, at, g)) =
             let h = hand_rich z.jobs s.jobs s.rich c j (task, state, left, at) in
             absurd (free_p j h.0 h.1 h.2 h.3)
         go (inr (inl (is_free, a))) = absurd (none_p a.0 a.1 a.2 (wait_now z.jobs s.jobs s.rich c a.0 a.1 a.2 a.4))
-        go (inr (inr a)) = subst IsSpared (sym a.3) s
+        go (inr (inr a)) = subst IsSparedThere (sym a.3) (stays_spared z s)
 
     -- it is made from it
-    was_new : turns_in (s.headways c) ≡ 0 → DeeperBy P depths s.i c → IsSpared z'
+    was_new : turns_in (s.headways c) ≡ 0 → DeeperBy P C depths s.i c → IsSparedThere z'
     was_new none (k, n, leads, deeper) =
-        let r = comes_new p c s.v s.headways s.same s.ahead (P s.i) (λ h u. (turns_in h ≡ n) × Richly (P k) u) leads s.shown none in
+        let r = comes_new p c s.v s.headways s.same s.ahead (P s.i) (λ h u. (turns_in h ≡ n) × C k u) leads s.shown none in
         let shown = r.5.1 in
-        let deep = (sparing k (with_jobs r.2 shown.0) shown.2).depth in
+        let deep = low k r.2 shown in
         let many : turns_in r.3 ≡ n = r.5.0 in
         spared_by k r.0 r.1 r.2 r.3 r.4 shown r.6 r.7 (omega arith)
         (λ j task state left at. (
@@ -308,44 +373,34 @@ module _ (P : ℕ → World → Type 0) (depths : List ℕ) (least : ℕ) (spari
         (λ j task input free at. (let budget = least_is z s j task at.listed in (omega arith, omega arith)))
         progress
 
-    from_kept : turns_in (s.headways c) ≡ 0 → IsSpared z'
+    from_kept : turns_in (s.headways c) ≡ 0 → IsSparedThere z'
     from_kept none = elim (sparing_here.turns c) [
       | inl idle ↦ was_idle idle.0 idle.1
       | inr deeper ↦ was_new none deeper
     ]
 
-    from_headway : (h : Headway) → s.headways c ≡ h → IsSpared z'
+    from_headway : (h : Headway) → s.headways c ≡ h → IsSparedThere z'
     from_headway Idle e = from_kept (ap turns_in e)
     from_headway (Turns zero) e = from_kept (ap turns_in e)
     from_headway (Turns (suc n)) e = was_made n e
 
-    pub spared : IsSpared z'
+    pub spared : IsSparedThere z'
     spared = from_headway (s.headways c) refl
 
-  module _ (law : WritesAreDetermined) (begins : OneInstructionBegins) (replies : CallsHaveOneReply) where
-    none_spent : (cs : List ℕ) (w z : World) → IsWorld w → IsSpared w → RunsSchedule w cs z → NoneRanOut z.jobs
-    none_spent [] w z world s runs = subst (λ (x : World). NoneRanOut x.jobs) (sym runs) s.none
-    none_spent (c ∷ cs) w z world s (answer, m, progress, runs) =
-        let next = (one_turn law begins replies w c answer answer m m world progress progress).world in
-        none_spent cs m z next (spared law begins replies w m c answer world s progress) runs
+-- ---- where turns lead to richer jobs
+module _ (P : ℕ → World → Type 0) (depths : List ℕ) (least : ℕ) (sparing : (i : ℕ) (v : World) → P i v → IsSparingBy P (Richer P) depths least i v)
+    (law : WritesAreDetermined) (begins : OneInstructionBegins) (replies : CallsHaveOneReply) where
+  still_spared : (z z' : World) (c : ℕ) (answer : Turn) → IsWorld z → IsSparedBy P depths z → TakesTurn z c answer z' → IsSparedBy P depths z'
+  still_spared z z' c answer world s progress =
+      spared_rich P depths z' (spared P (Richer P) depths least (λ k u shown. (u.jobs, all_same u.jobs, shown))
+      (λ k u shown. (sparing k (with_jobs u shown.0) shown.2).depth) sparing law begins replies z z' c answer world s progress)
 
-    first_spared : (i : ℕ) (w : World) → IsFresh w → P i w → IsSpared w
-    first_spared i w fresh shown = record {
-      i = i;
-      v = w;
-      headways = none_is_ahead;
-      jobs = w.jobs;
-      rich = all_same w.jobs;
-      shown = shown;
-      same = refl;
-      ahead = nobody_ahead w;
-      steps = λ c j task state left there. (
-          let waits = fresh.waits j task there.listed in
-          let no : Waiting waits.0 ≡ InHand state left = sym waits.1 ∙ there.at in cc);
-      none = λ j task pc there ended. (
-          let waits = fresh.waits j task there in
-          let no : Waiting waits.0 ≡ Ended (OutOfBudget pc) = sym waits.1 ∙ ended in cc);
-    }
+  none_spent : (cs : List ℕ) (w z : World) → IsWorld w → IsSparedBy P depths w → RunsSchedule w cs z → NoneRanOut z.jobs
+  none_spent [] w z world s runs = subst (λ (x : World). NoneRanOut x.jobs) (sym runs) s.none
+  none_spent (c ∷ cs) w z world s (answer, m, progress, runs) =
+      let next = (one_turn law begins replies w c answer answer m m world progress progress).world in
+      none_spent cs m z next (still_spared w m c answer world s progress) runs
 
-    pub none_runs_out : (i : ℕ) (w z : World) (schedule : List ℕ) → IsFresh w → P i w → RunsSchedule w schedule z → NoneRanOut z.jobs
-    none_runs_out i w z schedule fresh shown runs = none_spent schedule w z (fresh_world law begins replies w fresh) (first_spared i w fresh shown) runs
+  pub none_runs_out : (i : ℕ) (w z : World) (schedule : List ℕ) → IsFresh w → P i w → RunsSchedule w schedule z → NoneRanOut z.jobs
+  none_runs_out i w z schedule fresh shown runs =
+      none_spent schedule w z (fresh_world law begins replies w fresh) (first_spared P depths i w fresh shown) runs

@@ -1,13 +1,14 @@
 -- Worlds from which peers lead to one another: turns, ends, and what is so of them.
 use Rattle.std.proofs.Common.{◌≡◌, ◌∙◌, ℕ, zero, suc, List, inl, inr, refl, sym, ap, subst}
 use Rattle.bpf_cpu.specs.declared.outcome.Outcome.{Outcome}
-use Rattle.bpf_cpu.specs.Task.{Stage, Task, Ended}
+use Rattle.bpf_cpu.specs.declared.outcome.Outcome.TheVariants.{OutOfBudget}
+use Rattle.bpf_cpu.specs.Task.{Stage, Task, Waiting, InHand, Ended}
 use Rattle.bpf_live.specs.Laws.{AlikeIsAnEquivalence}
 use Rattle.bpf_machine.specs.declared.machine.ahead.Headway.{Headway}
 use Rattle.bpf_machine.specs.declared.machine.Turn.{Turn}
 use Rattle.bpf_machine.specs.Cover.{IsAhead}
 use Rattle.bpf_machine.specs.Headways.{IsAheadOf, with_jobs}
-use Rattle.bpf_machine.specs.Patient.{AsRich}
+use Rattle.bpf_machine.specs.Patient.{AsRich, NoneRanOut}
 use Rattle.bpf_machine.specs.Rounds.{HaveEnded}
 use Rattle.bpf_machine.specs.Schedule.{TakesTurn, World}
 use Rattle.bpf_machine.proofs.CoverLaws.{IsCoveredBy}
@@ -21,8 +22,38 @@ use Rattle.bpf_equal.specs.Worlds.{AreNeighbours, AreOneStage, ArePermuted, AreP
 use Rattle.bpf_equal.proofs.Back.{inverse, permuted_back}
 use Rattle.bpf_equal.proofs.Carrying.{ahead_too, news, permuted_behind, there}
 use Rattle.bpf_equal.proofs.Partners.{partner_back}
-use Rattle.bpf_equal.proofs.Richer.{are_rich_here, dead_alike, dead_permuted, dead_there, rich_here, rich_permuted}
+use Rattle.bpf_equal.proofs.Richer.{are_rich_here, dead_alike, dead_permuted, dead_there, rich_here, rich_permuted, rich_there}
 use Rattle.bpf_equal.proofs.Turns.{turns_are_permuted}
+
+-- ---- ends
+end_of : (s : Stage) (end : Outcome) → AreOneStage (Ended end) s → s ≡ Ended end
+end_of s end one = ended_is s one
+  where
+    ended_is : (s : Stage) → AreOneStage (Ended end) s → s ≡ Ended end
+    ended_is s e = e
+
+end_from : (s : Stage) (end : Outcome) → AreOneStage s (Ended end) → s ≡ Ended end
+end_from (InHand state left) end e = sym e
+end_from (Waiting input) end e = sym e
+end_from (Ended other) end e = sym e
+
+module _ (cpus jobs : Permutation) (w v : World) (p : IsPermuted cpus jobs w v) where
+  pub ended_by : HaveEnded w.jobs → HaveEnded v.jobs
+  ended_by ended j task at =
+      let b = partner_back w.store.shape w.programs cpus jobs w.jobs v.jobs p.each j task at in
+      let e = ended (jobs.from j) b.0 b.1 in
+      elim b.2.stage [
+        | inl same ↦ (e.0, same.1 ∙ e.1)
+        | inr one ↦ (e.0, end_of task.stage e.0 (subst (λ (s : Stage). AreOneStage s task.stage) e.1 one.1))
+      ]
+
+  pub none_by : NoneRanOut w.jobs → NoneRanOut v.jobs
+  none_by none j task pc at ended =
+      let b = partner_back w.store.shape w.programs cpus jobs w.jobs v.jobs p.each j task at in
+      none (jobs.from j) b.0 pc b.1 (elim b.2.stage [
+        | inl same ↦ sym same.1 ∙ ended
+        | inr one ↦ end_from b.0.stage (OutOfBudget pc) (subst (λ (s : Stage). AreOneStage b.0.stage s) ended one.1)
+      ])
 
 module _ (peers : List Peer) where
   abbrev In : ℕ → World → World → Type 0
@@ -86,27 +117,28 @@ module _ (peers : List Peer) where
             (other, t.0, its, (s.1, l.3 t.0 s.1 (permuted_back (inverse cpus) (inverse jobs) s.1 t.0 t.2), s.3)),
       )
 
-  -- ---- ends
-  end_of : (s : Stage) (end : Outcome) → AreOneStage (Ended end) s → s ≡ Ended end
-  end_of s end one = ended_is s one
-    where
-      ended_is : (s : Stage) → AreOneStage (Ended end) s → s ≡ Ended end
-      ended_is s e = e
+  -- a turn of the first is one of the last
+  pub turns_there : (n : ℕ) (w v z : World) (c : ℕ) (answer : Turn) → In n w v → TakesTurn w c answer z
+      → (d : ℕ) × (other : Turn) × (y : World) × TakesTurn v d other y × In n z y
+  turns_there zero w v z c answer same taken = (c, answer, z, subst (λ (x : World). TakesTurn x c answer z) (sym same) taken, refl)
+  turns_there (suc n) w v z c answer (mid, step, rest) taken =
+      let l = leads w mid step in
+      let t = turns_are_permuted l.0 l.1 w mid z c answer l.2 taken in
+      let r = turns_there n mid v t.0 ((l.0).to c) (turn_permuted l.1 answer) rest t.1 in
+      (r.0, r.1, r.2, r.3, (t.0, l.3 z t.0 t.2, r.4))
 
+  -- ---- ends
   pub ended_next : (w v : World) → AreNeighbours peers w v → HaveEnded w.jobs → HaveEnded v.jobs
-  ended_next w v step ended j task at =
-      let l = leads w v step in
-      let p = l.2 in
-      let b = partner_back w.store.shape w.programs l.0 l.1 w.jobs v.jobs p.each j task at in
-      let e = ended ((l.1).from j) b.0 b.1 in
-      elim b.2.stage [
-        | inl same ↦ (e.0, same.1 ∙ e.1)
-        | inr one ↦ (e.0, end_of task.stage e.0 (subst (λ (s : Stage). AreOneStage s task.stage) e.1 one.1))
-      ]
+  ended_next w v step ended = let l = leads w v step in ended_by l.0 l.1 w v l.2 ended
 
   pub ended_there : (n : ℕ) (w v : World) → In n w v → HaveEnded w.jobs → HaveEnded v.jobs
   ended_there zero w v same ended = subst (λ (x : World). HaveEnded x.jobs) (sym same) ended
   ended_there (suc n) w v (mid, step, rest) ended = ended_there n mid v rest (ended_next w mid step ended)
+
+  pub none_there : (n : ℕ) (w v : World) → In n w v → NoneRanOut w.jobs → NoneRanOut v.jobs
+  none_there zero w v same none = subst (λ (x : World). NoneRanOut x.jobs) (sym same) none
+  none_there (suc n) w v (mid, step, rest) none =
+      let l = leads w mid step in none_there n mid v rest (none_by l.0 l.1 w mid l.2 none)
 
   -- ---- what is covered
   module _ (P : World → Type 0) where
@@ -157,6 +189,17 @@ module _ (peers : List Peer) where
         are_rich_here l.0 l.1 w mid l.2 r.0 r.1,
         (with_jobs mid r.0, l.3 (with_jobs w jobs) (with_jobs mid r.0) (rich_permuted l.0 l.1 w mid l.2 r.0 r.1), r.2),
       )
+
+  -- richer jobs of the first are richer ones of the last
+  pub rich_over : (n : ℕ) (w v : World) (tasks : List Task) → In n w v → AsRich w.jobs tasks
+      → (jobs : List Task) × AsRich v.jobs jobs × In n (with_jobs w tasks) (with_jobs v jobs)
+  rich_over zero w v tasks same rich =
+      (tasks, subst (λ (x : World). AsRich x.jobs tasks) (sym same) rich, ap (λ (x : World). with_jobs x tasks) same)
+  rich_over (suc n) w v tasks (mid, step, rest) rich =
+      let l = leads w mid step in
+      let t = rich_there l.0 l.1 w mid l.2 tasks rich in
+      let r = rich_over n mid v t.0 rest t.1 in
+      (r.0, r.1, (with_jobs mid t.0, l.3 (with_jobs w tasks) (with_jobs mid t.0) t.2, r.2))
 
   pub places_richly : (P : World → Type 0) (w : World) → ButForPlaces peers (Richly P) w → Richly (ButForPlaces peers P) w
   places_richly P w (v, (n, chain), (tasks, rich, shown)) =

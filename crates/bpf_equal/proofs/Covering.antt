@@ -21,8 +21,8 @@ use Rattle.bpf_alike.specs.Covers.{IsShownAlike}
 use Rattle.bpf_alike.proofs.AlikeAhead.{dead_ended, dead_once, leads_alike}
 use Rattle.bpf_alike.proofs.AlikeJobs.{all_same as alike_same}
 use Rattle.bpf_alike.proofs.AlikeRicher.{dead_and_rich}
-use Rattle.bpf_equal.specs.Covers.{ButForPlaces, IsClosedPermuted, IsClosedPermutedRichly, KeepsEnds, KeptEndsAreShown}
-use Rattle.bpf_equal.specs.Covers.{PermutedPatientSetsCover, PermutedSetsCover, PermutedSetsHaveTurns}
+use Rattle.bpf_equal.specs.Covers.{ButForPlaces, IsClosedPermuted, IsClosedPermutedRichly, IsCoveredPermutedRichly, KeepsEnds, KeptEndsAreShown}
+use Rattle.bpf_equal.specs.Covers.{PermutedPatientSetsCover, PermutedPatientSetsHaveTurns, PermutedSetsCover, PermutedSetsHaveTurns}
 use Rattle.bpf_equal.specs.Peers.{Peer}
 use Rattle.bpf_equal.specs.Worlds.{ArePermuted, ArePermutedIn}
 use Rattle.bpf_equal.proofs.Chains.{again, back, carried, dead_places, ended_next, ended_there, places_richly, turns_back}
@@ -38,21 +38,22 @@ module _ (peers : List Peer) where
   pub in_place : (P : World → Type 0) (w : World) → P w → Places P w
   in_place P w shown = (w, (0, refl), shown)
 
-  carry : (P : World → Type 0) (y : World) → IsCoveredBy (Places P) y → Covered P y
+  pub carry : (P : World → Type 0) (y : World) → IsCoveredBy (Places P) y → Covered P y
   carry P y (v, headways, (u, (n, chain), shown), same, ahead) =
       let r = carried peers P n y v u headways chain shown same ahead in (r.0, (n, r.1), r.2)
 
-  again_so : (P : World → Type 0) (w v : World) → ArePermuted peers w v → Places P v → Places P w
+  pub again_so : (P : World → Type 0) (w v : World) → ArePermuted peers w v → Places P v → Places P w
   again_so P w v one (u, two, shown) = (u, again peers w v u one two, shown)
 
   pub ended_but_for_places : (P : World → Type 0) (z : World) → Covered P z → HaveEnded z.jobs → Places P z
   ended_but_for_places P z (u, (n, chain), covered) ended = (u, (n, chain), ended_has P u covered (ended_there peers n z u chain ended))
 
   -- a turn comes of each CPU
-  pub next_turn : (P : World → Type 0) → LeadsOn P (Places P) → (w : World) (c : ℕ) → Covered P w → (answer : Turn) × (y : World) × TakesTurn w c answer y
-  next_turn P leads w c (u, (n, chain), covered) =
+  pub next_turn : (P R : World → Type 0) → ((v : World) → P v → R v) → LeadsOn P (Places R) → (w : World) (c : ℕ) → Covered P w
+      → (answer : Turn) × (y : World) × TakesTurn w c answer y
+  next_turn P R stays_so leads w c (u, (n, chain), covered) =
       let b = turns_back peers n w u chain in
-      let r = comes P (Places P) (in_place P) leads u (b.0 c) covered in
+      let r = comes P (Places R) (λ v shown. in_place R v (stays_so v shown)) leads u (b.0 c) covered in
       let t = b.1 c r.0 r.1 r.2 in
       (t.0, t.1, t.2)
 
@@ -67,7 +68,7 @@ module _ (peers : List Peer) where
         let one = one_turn law begins replies w c answer t.0 z t.1 world taken t.2 in
         again_so (IsCoveredBy R) z r.1 (n, subst (λ (x : World). ArePermutedIn peers n x r.1) (sym one.worlds) t.3) (carry R r.1 r.3)
 
-    next_world : (w z : World) (c : ℕ) (answer : Turn) → IsWorld w → TakesTurn w c answer z → IsWorld z
+    pub next_world : (w z : World) (c : ℕ) (answer : Turn) → IsWorld w → TakesTurn w c answer z → IsWorld z
     next_world w z c answer world taken = (one_turn law begins replies w c answer answer z z world taken taken).world
 
     module _ (P : World → Type 0) (leads : LeadsOn P (Places P)) where
@@ -156,12 +157,19 @@ module _ (equal : AlikeIsAnEquivalence) (steps : StepsAreAlike) (one : OneStateI
 
 -- what a schedule leads to is covered
 module _ (equal : AlikeIsAnEquivalence) (steps : StepsAreAlike) (one : OneStateIsAlike) (law : WritesAreDetermined) (begins : OneInstructionBegins)
-    (replies : CallsHaveOneReply) (peers : List Peer) (kept : List MachineState) (closed : IsClosedPermuted peers kept) where
-  pub covered_permuted : (first z : World) (schedule : List ℕ) → IsFresh first → IsShown kept first → RunsSchedule first schedule z
-      → Covered peers (IsShownAlike kept) z
-  covered_permuted first z schedule fresh shown runs =
+    (replies : CallsHaveOneReply) (peers : List Peer) (kept : List MachineState) where
+  pub covered_permuted : IsClosedPermuted peers kept → (first z : World) (schedule : List ℕ) → IsFresh first → IsShown kept first
+      → RunsSchedule first schedule z → Covered peers (IsShownAlike kept) z
+  covered_permuted closed first z schedule fresh shown runs =
       covered_but_for_places peers law begins replies (IsShownAlike kept) (permuted_leads equal steps one peers kept closed) first z schedule fresh
       (first.jobs, alike_same equal first.programs first.jobs, shown) runs
+
+  -- with richer jobs, while none runs out of budget
+  pub covered_permuted_richly : IsClosedPermutedRichly peers kept → (first z : World) (schedule : List ℕ) → IsFresh first → IsShown kept first
+      → RunsSchedule first schedule z → NoneRanOut z.jobs → IsCoveredPermutedRichly peers kept z
+  covered_permuted_richly closed first z schedule fresh shown runs none =
+      covered_richly peers law begins replies (IsShownAlike kept) (permuted_leads_richly equal steps one peers kept closed) first z schedule fresh
+      (first.jobs, alike_same equal first.programs first.jobs, shown) runs none
 
 pub permuted_sets_cover : AlikeIsAnEquivalence → StepsAreAlike → OneStateIsAlike → WritesAreDetermined → OneInstructionBegins → CallsHaveOneReply
     → PermutedSetsCover
@@ -172,15 +180,25 @@ permuted_sets_cover equal steps one law begins replies peers kept first z schedu
 pub permuted_sets_have_turns : AlikeIsAnEquivalence → StepsAreAlike → OneStateIsAlike → WritesAreDetermined → OneInstructionBegins
     → CallsHaveOneReply → PermutedSetsHaveTurns
 permuted_sets_have_turns equal steps one law begins replies peers kept first z schedule c closed fresh shown runs =
-    next_turn peers (IsShownAlike kept) (permuted_leads equal steps one peers kept closed) z c
+    next_turn peers (IsShownAlike kept) (IsShownAlike kept) (λ v shown. shown) (permuted_leads equal steps one peers kept closed) z c
     (covered_permuted equal steps one law begins replies peers kept closed first z schedule fresh shown runs)
 
 pub permuted_patient_sets_cover : AlikeIsAnEquivalence → StepsAreAlike → OneStateIsAlike → WritesAreDetermined → OneInstructionBegins
     → CallsHaveOneReply → PermutedPatientSetsCover
 permuted_patient_sets_cover equal steps one law begins replies peers kept first z schedule closed fresh shown runs none =
-    let covered = covered_richly peers law begins replies (IsShownAlike kept) (permuted_leads_richly equal steps one peers kept closed) first z
-    schedule fresh (first.jobs, alike_same equal first.programs first.jobs, shown) runs none in
+    let covered = covered_permuted_richly equal steps one law begins replies peers kept closed first z schedule fresh shown runs none in
     (covered, λ ended. ends_shown equal steps one peers kept z (ended_richly peers (IsShownAlike kept) z covered ended) ended)
+
+pub permuted_patient_sets_have_turns : AlikeIsAnEquivalence → StepsAreAlike → OneStateIsAlike → WritesAreDetermined → OneInstructionBegins
+    → CallsHaveOneReply → PermutedPatientSetsHaveTurns
+permuted_patient_sets_have_turns equal steps one law begins replies peers kept first z schedule closed fresh shown runs none =
+    let covered = covered_permuted_richly equal steps one law begins replies peers kept closed first z schedule fresh shown runs none in (
+      covered.0,
+      covered.1,
+      λ c.
+          next_turn peers (IsShownAlike kept) (Richly (IsShownAlike kept)) (λ v shown. (v.jobs, all_same v.jobs, shown))
+          (permuted_leads_richly equal steps one peers kept closed) (with_jobs z covered.0) c covered.2,
+    )
 
 -- ---- where ends are kept after each move
 module _ (peers : List Peer) (kept : List MachineState) (keeps : KeepsEnds peers kept) where

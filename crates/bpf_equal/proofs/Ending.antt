@@ -13,7 +13,7 @@ use Rattle.bpf_machine.proofs.AheadLaws.{equal_lists}
 use Rattle.bpf_equal.specs.Laws.{MovesReachEnds, PermutedEndsAreOne}
 use Rattle.bpf_equal.specs.Peers.{Peer}
 use Rattle.bpf_equal.specs.Permutations.{Permutation}
-use Rattle.bpf_equal.specs.Worlds.{AreNeighbours, AreOneStage, ArePartners, ArePermutedIn, AreSymmetries, IsAsFar, IsPartner, IsMove, IsPermuted}
+use Rattle.bpf_equal.specs.Worlds.{AreNeighbours, AreOneStage, ArePartners, ArePermutedIn, AreSymmetries, IsAsFar, IsPartner, IsPermuted}
 use Rattle.bpf_equal.proofs.Back.{inverse, permuted_back}
 use Rattle.bpf_equal.proofs.Chains.{ended_next}
 use Rattle.bpf_equal.proofs.Turns.{schedules_are_permuted}

@@ -8,9 +8,14 @@ pub mod QuietTurns
 pub mod Beside
 pub mod Carrying
 pub mod Richer
+pub mod Poorer
 pub mod Chains
 pub mod Ending
+pub mod Freely
+pub mod Beyond
 pub mod Covering
+pub mod Reaching
+pub mod Sparing
 pub mod Racing
 pub mod Peering
 pub mod Settling

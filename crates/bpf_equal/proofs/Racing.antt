@@ -1,5 +1,5 @@
 -- Where CPUs change places, races go with them.
-use Rattle.std.proofs.Common.{◌≡◌, ◌∙◌, ℕ, zero, suc, ◌<◌, List, [], ◌∷◌, ◌++◌, map, inl, inr, refl, sym, ap, subst, arith}
+use Rattle.std.proofs.Common.{◌≡◌, ◌∙◌, ℕ, zero, suc, List, [], ◌∷◌, ◌++◌, map, inl, inr, refl, sym, ap, subst, arith}
 use Rattle.std.specs.Prelude.{slice_get}
 use Rattle.std.proofs.lemmas.Bool.{cases_lt}
 use mathlib.Core.Path.{fun_ext}
@@ -14,17 +14,21 @@ use Rattle.bpf_mem.specs.Laws.{WritesAreDetermined}
 use Rattle.bpf_cpu.specs.Step.{Step}
 use Rattle.bpf_live.specs.Laws.{AlikeIsAnEquivalence, OneStateIsAlike, StepsAreAlike}
 use Rattle.bpf_machine.specs.declared.machine.Stand.{Stand}
+use Rattle.bpf_machine.specs.Headways.{with_jobs}
 use Rattle.bpf_machine.specs.Machine.{MachineState}
 use Rattle.bpf_machine.specs.Race.{HasNext, IsRace}
 use Rattle.bpf_machine.specs.Schedule.{RunsSchedule, World}
+use Rattle.bpf_machine.proofs.PatientRaceLaws.{race_rich}
 use Rattle.bpf_alike.proofs.AlikeRaces.{covered_race}
+use Rattle.bpf_equal.specs.Covers.{IsCoveredPermuted}
 use Rattle.bpf_equal.specs.Peers.{AreOneGroup, Peer}
 use Rattle.bpf_equal.specs.Permutations.{Permutation, exchanged}
-use Rattle.bpf_equal.specs.Races.{AreAllEqual, IsRaceIn, PermutedRacesAreKept, RacesAreExchanged, stand_after, stand_exchanged}
+use Rattle.bpf_equal.specs.Races.{AreAllEqual, IsRaceIn, IsRaceKeptElsewhere, PermutedPatientRacesAreKept, PermutedRacesAreKept, RacesAreExchanged}
+use Rattle.bpf_equal.specs.Races.{stand_after, stand_exchanged}
 use Rattle.bpf_equal.specs.Stores.{store_permuted}
 use Rattle.bpf_equal.specs.Worlds.{AreNeighbours, ArePermutedIn, IsPermuted}
 use Rattle.bpf_equal.proofs.Back.{composed, inverse, none_moves, permuted_back}
-use Rattle.bpf_equal.proofs.Covering.{covered_permuted}
+use Rattle.bpf_equal.proofs.Covering.{covered_permuted, covered_permuted_richly}
 use Rattle.bpf_equal.proofs.Exchanging.{either_way, exchanged_itself}
 use Rattle.bpf_equal.proofs.Partners.{hand_there, partner_at}
 use Rattle.bpf_equal.proofs.Turns.{history_there, same_pc, schedules_are_permuted, step_there}
@@ -179,20 +183,41 @@ module _ (peers : List Peer) where
         };
       }
 
+-- a race in a world that is covered but for places is kept, but for places
+module _ (equal : AlikeIsAnEquivalence) (steps : StepsAreAlike) (begins : OneInstructionBegins) (peers : List Peer) (kept : List MachineState) where
+  race_elsewhere : (z : World) (one other : Stand) (b : ℕ) → IsCoveredPermuted peers kept z → IsRace z one other b
+      → IsRaceKeptElsewhere peers kept z one other b
+  race_elsewhere z one other b (u, (n, chain), covered) race =
+      let far = race_along peers n z u chain one other b race in
+      let there = far.race in
+      let held = covered_race equal steps begins kept u (stand_after far.pairs one) (stand_after far.pairs other) b covered there.race in
+      record {
+        pairs = far.pairs;
+        equal = far.equal;
+        world = held.0;
+        shown = held.1;
+        race = record { cpus = there.cpus; store = held.2 ∙ there.store; race = held.3 };
+      }
+
 pub permuted_races_are_kept : AlikeIsAnEquivalence → StepsAreAlike → OneStateIsAlike → WritesAreDetermined → OneInstructionBegins
     → CallsHaveOneReply → PermutedRacesAreKept
 permuted_races_are_kept equal steps once law begins replies peers kept first z schedule closed fresh shown runs one other b race =
     let covered = covered_permuted equal steps once law begins replies peers kept closed first z schedule fresh shown runs in
-    let u = covered.0 in
-    let far = race_along peers covered.1.0 z u covered.1.1 one other b race in
+    race_elsewhere equal steps begins peers kept z one other b covered race
+
+pub permuted_patient_races_are_kept : AlikeIsAnEquivalence → StepsAreAlike → OneStateIsAlike → WritesAreDetermined → OneInstructionBegins
+    → CallsHaveOneReply → PermutedPatientRacesAreKept
+permuted_patient_races_are_kept equal steps once law begins replies peers kept first z schedule closed fresh shown runs none one other b race =
+    let covered = covered_permuted_richly equal steps once law begins replies peers kept closed first z schedule fresh shown runs none in
+    let far = race_elsewhere equal steps begins peers kept (with_jobs z covered.0) one other b covered.2
+    (race_rich z covered.0 covered.1 one other b race) in
     let there = far.race in
-    let held = covered_race equal steps begins kept u (stand_after far.pairs one) (stand_after far.pairs other) b covered.2 there.race in
     record {
       pairs = far.pairs;
       equal = far.equal;
-      world = held.0;
-      shown = held.1;
-      race = record { cpus = there.cpus; store = held.2 ∙ there.store; race = held.3 };
+      world = far.world;
+      shown = far.shown;
+      race = record { cpus = there.cpus; store = there.store; race = there.race };
     }
 
 pub races_are_exchanged : RacesAreExchanged

@@ -105,14 +105,14 @@ module _ (programs : List Loaded) where
   each_alike (x ∷ xs) [] each = absurd (each 0)
   each_alike (x ∷ xs) (y ∷ ys) each = (each 0, each_alike xs ys (λ j. each (suc j)))
 
-rich_each : (xs ys : List Task) → AsRich xs ys → (j : ℕ) → Beside IsRicher (slice_get xs j) (slice_get ys j)
+pub rich_each : (xs ys : List Task) → AsRich xs ys → (j : ℕ) → Beside IsRicher (slice_get xs j) (slice_get ys j)
 rich_each [] [] all j = tt
 rich_each [] (y ∷ ys) all j = absurd all
 rich_each (x ∷ xs) [] all j = absurd all
 rich_each (x ∷ xs) (y ∷ ys) all zero = all.0
 rich_each (x ∷ xs) (y ∷ ys) all (suc j) = rich_each xs ys all.1 j
 
-each_rich : (xs ys : List Task) → ((j : ℕ) → Beside IsRicher (slice_get xs j) (slice_get ys j)) → AsRich xs ys
+pub each_rich : (xs ys : List Task) → ((j : ℕ) → Beside IsRicher (slice_get xs j) (slice_get ys j)) → AsRich xs ys
 each_rich [] [] each = tt
 each_rich [] (y ∷ ys) each = absurd (each 0)
 each_rich (x ∷ xs) [] each = absurd (each 0)
@@ -171,3 +171,15 @@ module _ (cpus jobs : Permutation) (w v : World) (p : IsPermuted cpus jobs w v) 
       let beside = others_beside IsRicher richer_cpu (inverse cpus) (inverse jobs) v w back tasks each_rich_there
       (richer_follows v.store.shape v.programs (inverse cpus)) in
       each_rich w.jobs rich_here beside
+
+-- with richer jobs, what it leads to, with richer ones
+pub rich_there : (cpus jobs : Permutation) (w v : World) → IsPermuted cpus jobs w v → (tasks : List Task) → AsRich w.jobs tasks
+    → (news : List Task) × AsRich v.jobs news × IsPermuted cpus jobs (with_jobs w tasks) (with_jobs v news)
+rich_there cpus jobs w v p tasks rich =
+    let q = permuted_back cpus jobs w v p in
+    let news = rich_here (inverse cpus) (inverse jobs) v w q tasks rich in (
+      news,
+      are_rich_here (inverse cpus) (inverse jobs) v w q tasks rich,
+      permuted_back (inverse cpus) (inverse jobs) (with_jobs v news) (with_jobs w tasks)
+          (rich_permuted (inverse cpus) (inverse jobs) v w q tasks rich),
+    )

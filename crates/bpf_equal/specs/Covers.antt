@@ -73,6 +73,15 @@ PermutedPatientSetsCover =
     → IsCoveredPermutedRichly peers kept z
     × (HaveEnded z.jobs → ButForPlaces peers (IsShown kept) z)
 
+-- with richer jobs each CPU has its next turn there
+abbrev pub PermutedPatientSetsHaveTurns : Type 0
+PermutedPatientSetsHaveTurns =
+    (peers : List Peer) (kept : List MachineState) (first z : World) (schedule : List ℕ)
+    → IsClosedPermutedRichly peers kept → IsFresh first → IsShown kept first
+    → RunsSchedule first schedule z → NoneRanOut z.jobs
+    → (jobs : List Task) × AsRich z.jobs jobs × ((c : ℕ)
+    → (answer : Turn) × (y : World) × TakesTurn (with_jobs z jobs) c answer y)
+
 -- where ends are kept after each move, what a kept machine shows but for peers, one shows
 abbrev pub KeptEndsAreShown : Type 0
 KeptEndsAreShown =

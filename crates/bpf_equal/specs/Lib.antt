@@ -8,5 +8,6 @@ pub mod Laws
 pub mod Equal
 pub mod Covers
 pub mod Races
+pub mod Patient
 pub mod Twins
 pub mod Private

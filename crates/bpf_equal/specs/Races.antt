@@ -1,12 +1,13 @@
 -- Races where equal CPUs have changed places.
-use Rattle.std.specs.Prelude.{◌≡◌, ◌≢◌, ℕ, ◌<◌, List, [], ◌∷◌, map}
+use Rattle.std.specs.Prelude.{◌≡◌, ℕ, ◌<◌, List, [], ◌∷◌, map}
 use Rattle.bpf_machine.specs.declared.machine.Stand.{Stand}
 use Rattle.bpf_machine.specs.Cover.{IsShown}
 use Rattle.bpf_machine.specs.Laws.{IsFresh}
 use Rattle.bpf_machine.specs.Machine.{MachineState}
+use Rattle.bpf_machine.specs.Patient.{NoneRanOut}
 use Rattle.bpf_machine.specs.Race.{IsRace}
 use Rattle.bpf_machine.specs.Schedule.{RunsSchedule, World}
-use Rattle.bpf_equal.specs.Covers.{IsClosedPermuted}
+use Rattle.bpf_equal.specs.Covers.{IsClosedPermuted, IsClosedPermutedRichly}
 use Rattle.bpf_equal.specs.Peers.{AreOneGroup, Peer}
 use Rattle.bpf_equal.specs.Permutations.{Exchanges, Permutation, exchanged}
 use Rattle.bpf_equal.specs.Stores.{store_permuted}
@@ -58,6 +59,15 @@ PermutedRacesAreKept =
     (peers : List Peer) (kept : List MachineState) (first z : World) (schedule : List ℕ)
     → IsClosedPermuted peers kept → IsFresh first → IsShown kept first
     → RunsSchedule first schedule z → (one other : Stand) (b : ℕ) → IsRace z one other b
+    → IsRaceKeptElsewhere peers kept z one other b
+
+-- where it is closed but for places and richer jobs, so is each before which no job is out of budget
+abbrev pub PermutedPatientRacesAreKept : Type 0
+PermutedPatientRacesAreKept =
+    (peers : List Peer) (kept : List MachineState) (first z : World) (schedule : List ℕ)
+    → IsClosedPermutedRichly peers kept → IsFresh first → IsShown kept first
+    → RunsSchedule first schedule z → NoneRanOut z.jobs
+    → (one other : Stand) (b : ℕ) → IsRace z one other b
     → IsRaceKeptElsewhere peers kept z one other b
 
 -- a race that a schedule leads to comes with that of the schedule with two equal CPUs exchanged

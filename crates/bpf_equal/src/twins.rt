@@ -68,6 +68,12 @@ impl Twins {
         self.peers
     }
 
+    /// By place, the number of the job that was taken for the one there when jobs were compared last.
+    /// Nothing that is promised rests on it.
+    pub fn order(&self) -> &[u32] {
+        &self.order
+    }
+
     /// What stands for a job's group in the hash of a machine: those of one group have one.
     pub fn group(&self, job: usize) -> u64 {
         match self.peers.get(job) {

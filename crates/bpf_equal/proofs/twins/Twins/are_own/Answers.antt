@@ -1,4 +1,4 @@
-use Rattle.std.proofs.Common.{◌≡◌, ◌∙◌, ◌<◌, ℕ, Some, List, subst, arith, length}
+use Rattle.std.proofs.Common.{◌≡◌, ◌∙◌, Some, List, subst, arith, length}
 use Rattle.std.specs.Prelude.{slice_get}
 use Rattle.std.proofs.lemmas.Option.{slice_get_within}
 use Rattle.bpf_machine.specs.Parts.{chosen}
