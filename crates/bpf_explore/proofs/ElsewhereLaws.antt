@@ -19,13 +19,13 @@ use Rattle.bpf_machine.specs.Listings.{Listing, listing_at}
 use Rattle.bpf_machine.specs.Machine.{MachineState, Shows}
 use Rattle.bpf_machine.specs.Parts.{CanStand, chosen, in_hand}
 use Rattle.bpf_machine.specs.Schedule.{World}
-use Rattle.bpf_alike.specs.Covers.{IsShownAlike}
+use Rattle.bpf_alike.specs.Ends.{IsShownAlikeAt}
 use Rattle.bpf_alike.specs.Worlds.{AreLiveTables, table_at}
 use Rattle.bpf_equal.specs.declared.peers.Peer.{Peer}
 use Rattle.bpf_equal.specs.Groups.{AreJobsOf, ArePeers, IsOfPeers}
 use Rattle.bpf_equal.specs.Twins.{AreAlikeElsewhere, AreLoaded}
 use Rattle.bpf_explore.specs.Album.{IsNumbered}
-use Rattle.bpf_explore.specs.Search.{IsKept, Permuted}
+use Rattle.bpf_explore.specs.Private.Peers.{IsKeptElsewhereAt}
 use Rattle.bpf_explore.specs.Stores.{no_store}
 use Rattle.bpf_explore.specs.Tuples.{tuple_at}
 use Rattle.bpf_explore.specs.Private.Album.{IsShelf, Shelf, machine_at, machine_of, machines, stocked}
@@ -116,7 +116,7 @@ module _ (h : Shape) (s : Shelf) (m : MachineState) (numbers : List ℕ) (is : I
 
   pub kept_elsewhere : (n : ℕ) → n < s.states.count → slice_index_or (tuple_at s.states n) 0 0 ≡ slice_index_or numbers 0 0
       → AreAlikeElsewhere peers tables (chosen s.parts (drop 1 numbers)) (chosen s.parts (drop 1 (tuple_at s.states n)))
-      → IsKept (Permuted peers) (machines s s.states.count) m
+      → IsKeptElsewhereAt peers (machines s s.states.count) n m
   kept_elsewhere n inside store elsewhere w shows =
       let fits = fits_shelf h s m numbered.fits in
       let under = numbered.under in
@@ -137,6 +137,6 @@ module _ (h : Shape) (s : Shelf) (m : MachineState) (numbers : List ℕ) (is : I
         jobs = refl;
         lists = shown.lists;
       } in
-      let there : IsShownAlike (machines s s.states.count) (with_jobs w r.0) =
-      (jobs, r.2, (n, machine_at s n, machines_at s s.states.count n inside, kept)) in
+      let there : IsShownAlikeAt (machines s s.states.count) n (with_jobs w r.0) =
+      (jobs, r.2, (machine_at s n, machines_at s s.states.count n inside, kept)) in
       (with_jobs w r.0, r.1, there)

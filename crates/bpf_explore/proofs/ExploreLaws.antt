@@ -108,11 +108,11 @@ not_whole Refused h = refl
 shows_ends : (kept : List MachineState) → CoversAll Alike kept → ShowsEnds kept
 shows_ends kept covers w z schedule (fresh, (one, at, here)) runs ended = (covers w z schedule fresh (0, one, at, here) runs).1 ended
 
-pub came_to_ends : (kept : List MachineState) (extent : Extent) (limit : ℕ) → CameTo Alike kept extent limit → CameToEnds kept extent limit
+pub came_to_ends : (kept : List MachineState) (extent : Extent) (limit : ℕ) → CameTo Alike kept extent limit → CameToEnds ShowsEnds kept extent limit
 came_to_ends kept extent limit came = record { ends = λ is. shows_ends kept (came.covers is); met = came.met; short = came.short }
 
 pub explored : CoverTellsAll → (kept : List MachineState) (w : World) (names : Names) (maps : Bool) (answers : List Found) (extent : Extent)
-    (limit : ℕ) → BeginsAt kept w → CameToEnds kept extent limit
+    (limit : ℕ) → BeginsAt kept w → CameToEnds ShowsEnds kept extent limit
     → ((u : World) → IsFirst kept u → AreOutcomes u names maps answers) →
     (extent ≡ Whole → (i : ℕ) → IsAnsweredAt kept names maps answers i) → AreLed kept → AreApart kept → IsExplored w names maps answers
     (is_whole extent) (is_refused extent) limit (length kept)

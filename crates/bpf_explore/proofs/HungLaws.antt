@@ -12,8 +12,8 @@ use Rattle.bpf_machine.specs.Cover.{TurnsAhead}
 use Rattle.bpf_machine.specs.Patient.{NoneRanOut}
 use Rattle.bpf_machine.specs.Ends.{RunsFreely, FreeRunsAgree}
 use Rattle.bpf_machine.specs.Budgets.{depth_at}
-use Rattle.bpf_alike.specs.Budgets.{AreSparingAlike, AlikeBudgetsSuffice}
-use Rattle.bpf_alike.specs.Ends.{AreStuckAlike, AlikeStuckAreHung}
+use Rattle.bpf_equal.specs.declared.peers.Peer.{Peer}
+use Rattle.bpf_equal.specs.Patient.{AreAllExchanged, AreSparingPermuted, AreStuckPermuted, PermutedBudgetsSuffice, PermutedStuckAreHung}
 use Rattle.bpf_alike.proofs.Like.{all_like}
 use Rattle.bpf_explore.specs.declared.turns.Edge.{Edge}
 use Rattle.bpf_explore.specs.Album.{LeadsFreely, HaveBudgets}
@@ -53,12 +53,17 @@ can_run_out kept m is (j, task, pc, at, ended) w first =
     (r.0, r.1, r.2, (j, task, pc, ap (λ (ts : List Task). slice_get ts j) r.3.jobs ∙ at, ended))
 
 -- ---- what is hung
-pub hangs : AlikeStuckAreHung → FreeRunsAgree → (kept : List MachineState) (marks : List Bool) (place : ℕ) (by : List (ℕ × ℕ))
-    (m : MachineState) → AreStuckAlike kept marks → slice_get marks place ≡ Some false
+pub hangs : PermutedStuckAreHung → FreeRunsAgree → (peers : List Peer) (kept : List MachineState) (marks : List Bool) (place : ℕ) (by : List (ℕ × ℕ))
+    (m : MachineState) → AreStuckPermuted peers kept marks → slice_get marks place ≡ Some false
     → LeadsFreely kept 0 (unrolled by) place → IsReplayed kept (unrolled by) m → NoneRanOut m.jobs → Hangs kept by
-hangs hung agree kept marks place by m stuck off leads tried none w fresh first =
-    let a = agrees agree kept by place m leads tried none w fresh first in
-    (a.z, a.runs, a.none, hung kept marks w a.z (unrolled by) place stuck fresh a.runs off (a.jobs, a.rich, (a.jobs, all_like a.z.programs a.jobs, a.shown)))
+hangs hung agree peers kept marks place by m stuck off leads tried none w fresh first =
+    let a = agrees agree kept by place m leads tried none w fresh first in (
+      a.z,
+      a.runs,
+      a.none,
+      hung peers kept marks w a.z (unrolled by) place stuck fresh a.runs off
+          (a.z, (0, refl), (a.jobs, a.rich, (a.jobs, all_like a.z.programs a.jobs, a.shown))),
+    )
 
 pub none_hung : (kept : List MachineState) → AllHang kept []
 none_hung kept i by at = cc
@@ -132,56 +137,62 @@ next_beyond kept marks hung pushed by place comes same all =
     below_next kept marks pushed place (λ i less off. beyond_still kept hung pushed by i same (all i less off))
     (λ off. (length hung, by, place, at, comes, ([], leads_nowhere RunsFreely free_runs_join kept place)))
 
+-- with none there is nothing to be exchanged
+pub none_exchanged : (peers : List Peer) → AreAllExchanged peers []
+none_exchanged peers i c d by at equal = cc
+
 -- ---- depths
-pub edge_deeper : (kept : List MachineState) (depths : List ℕ) (i c : ℕ) (e : Edge) → IsEdgeOf kept i c e → depth_at depths i + e.ahead + 1
-    ≤ depth_at depths e.to → LeadsDeeperAt kept depths i c
-edge_deeper kept depths i c e (from, own, is) deeper m at =
-    let two : Some is.old ≡ Some m = sym (subst (λ (k : ℕ). slice_get kept k ≡ Some is.old) from is.there) ∙ at in
-    let one : is.old ≡ m = cc in (
-      is.new,
-      e.to,
-      e.ahead,
-      subst (λ (x : MachineState). TurnsAhead x c e.ahead is.new) one (subst (λ (d : ℕ). TurnsAhead is.old d e.ahead is.new) own is.turns),
-      is.is_kept,
-      deeper,
-    )
+module _ (peers : List Peer) where
+  pub edge_deeper : (kept : List MachineState) (depths : List ℕ) (i c : ℕ) (e : Edge) → IsEdgeOf peers kept i c e → depth_at depths i + e.ahead + 1
+      ≤ depth_at depths e.to → LeadsDeeperAt peers kept depths i c
+  edge_deeper kept depths i c e (from, own, is) deeper m at =
+      let two : Some is.old ≡ Some m = sym (subst (λ (k : ℕ). slice_get kept k ≡ Some is.old) from is.there) ∙ at in
+      let one : is.old ≡ m = cc in (
+        is.new,
+        e.to,
+        e.ahead,
+        subst (λ (x : MachineState). TurnsAhead x c e.ahead is.new) one (subst (λ (d : ℕ). TurnsAhead is.old d e.ahead is.new) own is.turns),
+        is.is_kept,
+        deeper,
+      )
 
--- the turns of the CPUs below a number lead deeper
-abbrev pub DeeperBelow : List MachineState → List ℕ → ℕ → ℕ → Type 0
-DeeperBelow kept depths i n = (c : ℕ) → c < n → IsIdleAt kept i c ⊎ LeadsDeeperAt kept depths i c
+  -- the turns of the CPUs below a number lead deeper
+  abbrev pub DeeperBelow : List MachineState → List ℕ → ℕ → ℕ → Type 0
+  DeeperBelow kept depths i n = (c : ℕ) → c < n → IsIdleAt kept i c ⊎ LeadsDeeperAt peers kept depths i c
 
-pub next_deeper : (kept : List MachineState) (depths : List ℕ) (i n : ℕ) → DeeperBelow kept depths i n →
-    (IsIdleAt kept i n ⊎ LeadsDeeperAt kept depths i n) → DeeperBelow kept depths i (n + 1)
-next_deeper kept depths i n far one c less = elim (cases_lt c n) [
-  | inl below ↦ far c below
-  | inr past ↦ let e : n ≡ c = omega arith in subst (λ (d : ℕ). IsIdleAt kept i d ⊎ LeadsDeeperAt kept depths i d) e one
-]
+  pub next_deeper : (kept : List MachineState) (depths : List ℕ) (i n : ℕ) → DeeperBelow kept depths i n →
+      (IsIdleAt kept i n ⊎ LeadsDeeperAt peers kept depths i n) → DeeperBelow kept depths i (n + 1)
+  next_deeper kept depths i n far one c less = elim (cases_lt c n) [
+    | inl below ↦ far c below
+    | inr past ↦ let e : n ≡ c = omega arith in subst (λ (d : ℕ). IsIdleAt kept i d ⊎ LeadsDeeperAt peers kept depths i d) e one
+  ]
 
-pub all_deeper : (kept : List MachineState) (depths : List ℕ) (i n cpus : ℕ) → ((j c : ℕ) → cpus ≤ c → IsIdleAt kept j c) → cpus ≤ n →
-    DeeperBelow kept depths i n → (c : ℕ) → IsIdleAt kept i c ⊎ LeadsDeeperAt kept depths i c
-all_deeper kept depths i n cpus idle past far c = elim (cases_lt c n) [
-  | inl below ↦ far c below
-  | inr above ↦ inl (idle i c (omega arith))
-]
+  pub all_deeper : (kept : List MachineState) (depths : List ℕ) (i n cpus : ℕ) → ((j c : ℕ) → cpus ≤ c → IsIdleAt kept j c) → cpus ≤ n →
+      DeeperBelow kept depths i n → (c : ℕ) → IsIdleAt kept i c ⊎ LeadsDeeperAt peers kept depths i c
+  all_deeper kept depths i n cpus idle past far c = elim (cases_lt c n) [
+    | inl below ↦ far c below
+    | inr above ↦ inl (idle i c (omega arith))
+  ]
 
-pub next_sparing : (kept : List MachineState) (depths : List ℕ) (least n : ℕ) → ((i : ℕ) → i < n → IsSparingAt kept depths least i) →
-    IsSparingAt kept depths least n → (i : ℕ) → i < n + 1 → IsSparingAt kept depths least i
-next_sparing kept depths least n far one i less = elim (cases_lt i n) [
-  | inl below ↦ far i below
-  | inr past ↦ let e : n ≡ i = omega arith in subst (IsSparingAt kept depths least) e one
-]
+  pub next_sparing : (kept : List MachineState) (depths : List ℕ) (least n : ℕ) → ((i : ℕ) → i < n → IsSparingAt peers kept depths least i) →
+      IsSparingAt peers kept depths least n → (i : ℕ) → i < n + 1 → IsSparingAt peers kept depths least i
+  next_sparing kept depths least n far one i less = elim (cases_lt i n) [
+    | inl below ↦ far i below
+    | inr past ↦ let e : n ≡ i = omega arith in subst (IsSparingAt peers kept depths least) e one
+  ]
 
-pub are_sparing : (kept : List MachineState) (depths : List ℕ) (least n : ℕ) → HaveBudgets kept least → length kept ≤ n →
-    ((i : ℕ) → i < n → IsSparingAt kept depths least i) → AreSparingAlike kept depths least
-are_sparing kept depths least n budgets past all i m at =
-    let inside = slice_get_within kept i m at in
-    let is = all i (omega arith) in
-    record {
-      depth = is.0;
-      budgets = λ j task there. budgets i j m task at there;
-      turns = λ c. elim (is.1 c) [ inl idle ↦ inl (idle m at) | inr deeper ↦ inr (deeper m at) ];
-    }
+  pub are_sparing : (kept : List MachineState) (depths : List ℕ) (least n : ℕ) → HaveBudgets kept least → length kept ≤ n →
+      ((i : ℕ) → i < n → IsSparingAt peers kept depths least i) → AreSparingPermuted peers kept depths least
+  are_sparing kept depths least n budgets past all i m at =
+      let inside = slice_get_within kept i m at in
+      let is = all i (omega arith) in
+      record {
+        depth = is.0;
+        budgets = λ j task there. budgets i j m task at there;
+        turns = λ c. elim (is.1 c) [ inl idle ↦ inl (idle m at) | inr deeper ↦ inr (deeper m at) ];
+      }
 
-pub none_runs_out : AlikeBudgetsSuffice → (kept : List MachineState) (depths : List ℕ) (least : ℕ) → AreSparingAlike kept depths least → NoneRunsOut kept
-none_runs_out law kept depths least sparing w fresh first (schedule, z, runs, (j, task, pc, at, ended)) =
-    law kept depths least w z schedule sparing fresh (0, first.0, first.1, first.2) runs j task pc at ended
+  pub none_runs_out : PermutedBudgetsSuffice → (kept : List MachineState) (depths : List ℕ) (least : ℕ) → AreSparingPermuted peers kept
+      depths least → NoneRunsOut kept
+  none_runs_out law kept depths least sparing w fresh first (schedule, z, runs, (j, task, pc, at, ended)) =
+      law peers kept depths least w z schedule sparing fresh (0, first.0, first.1, first.2) runs j task pc at ended

@@ -2,6 +2,7 @@ pub mod SlotLaws
 pub mod KeptLaws
 pub mod SearchLaws
 pub mod RowLaws
+pub mod RunsLaws
 pub mod OutcomeLaws
 pub mod StandAlike
 pub mod ShelfLaws
@@ -27,8 +28,10 @@ pub mod RefilledLaws
 pub mod TurnedLaws
 pub mod MarkLaws
 pub mod HungLaws
+pub mod ExchangedLaws
 pub mod ExploreLaws
 pub mod PermutedLaws
+pub mod PatientStill
 pub mod BeyondLaws
 pub mod PatienceLaws
 pub mod ElsewhereLaws

@@ -37,5 +37,5 @@ cover_tells_all kept w names maps answers ends begins told text stopped (schedul
     shown_is_told kept z names maps answers (ends w z schedule begins runs ended) ended told text stopped tells
 
 pub patient_tell_all : PatientTellAll
-patient_tell_all kept w names maps answers covers fresh shown told text stopped (schedule, z, runs, ended, none, tells) =
-    shown_is_told kept z names maps answers ((covers w z schedule fresh shown runs none).1 ended) ended told text stopped tells
+patient_tell_all kept w names maps answers ends begins told text stopped (schedule, z, runs, ended, none, tells) =
+    shown_is_told kept z names maps answers (ends w z schedule begins runs none ended) ended told text stopped tells

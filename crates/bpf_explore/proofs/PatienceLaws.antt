@@ -11,21 +11,20 @@ use Rattle.bpf_machine.specs.Machine.{MachineState}
 use Rattle.bpf_machine.specs.Patient.{NoneRanOut}
 use Rattle.bpf_machine.specs.Schedule.{World}
 use Rattle.bpf_explore.specs.Outcomes.{Found}
-use Rattle.bpf_machine.specs.Cover.{IsShown}
-use Rattle.bpf_explore.specs.Search.{CameTo, Richly, is_whole, is_refused}
+use Rattle.bpf_equal.specs.declared.peers.Peer.{Peer}
+use Rattle.bpf_equal.specs.Patient.{AreAllExchanged, BeyondIsExchanged, CoveredLieBeyond, LiesBeyondOne, PermutedCanEnd}
+use Rattle.bpf_explore.specs.Search.{CameTo, CameToEnds, Richly, ShowsEndsInBudget, is_whole, is_refused}
 use Rattle.bpf_explore.specs.declared.frontier.Extent.{Extent}
 use Rattle.bpf_explore.specs.declared.frontier.Extent.TheVariants.{Whole}
 use Rattle.bpf_explore.proofs.ExploreLaws.{whole_of, limited_of, refused_of, not_whole}
 use Rattle.bpf_machine.specs.Ends.{CanEnd}
-use Rattle.bpf_alike.specs.Ends.{AlikeCanEnd}
 use Rattle.bpf_explore.specs.declared.budgets.Budgets.{Budgets}
 use Rattle.bpf_explore.specs.declared.budgets.Budgets.TheVariants.{Suffice, RunOut}
-use Rattle.bpf_explore.specs.Album.{BeginsAt, AreLedFreely, AreApart, HaveWholeBudgets}
-use Rattle.bpf_explore.specs.Patient.{EndsPatiently, ArePatient, LiesBeyondOne, NoOtherHangs, IsSearchedPatiently, PatientTellAll}
-use Rattle.bpf_explore.specs.Private.Hung.{Hangs, AllHang, ComesTo, AllLeadOrBeyond}
-use Rattle.bpf_explore.specs.Private.Replays.{SomeRanOut, CanRunOut, NoneRunsOut}
+use Rattle.bpf_explore.specs.Album.{BeginsAt}
+use Rattle.bpf_explore.specs.Patient.{EndsPatiently, HaveAllPatient, NoneHangs, NoOtherHangs, PatientTellAll}
+use Rattle.bpf_explore.specs.Private.Hung.{Hangs, AllHang, ComesTo, AllLeadOrBeyond, StaysFirst}
+use Rattle.bpf_explore.specs.Private.Replays.{SomeRanOut, CanRunOut}
 use Rattle.bpf_explore.proofs.BeyondLaws.{ends_or_lies}
-use Rattle.bpf_explore.proofs.TrailLaws.{are_reached_freely}
 use Rattle.bpf_explore.specs.Private.Answers.{AreSorted, IsFirst, KeepsAll, IsAnsweredAt}
 use Rattle.bpf_explore.specs.Private.Patience.{AllEndPatiently}
 use Rattle.bpf_explore.proofs.AnswerLaws.{Before, Here, Behind, origin, answered_still}
@@ -128,36 +127,59 @@ none_of_none : (w : World) (hung : List (List (ℕ × ℕ))) (z : World) → hun
 none_of_none w hung z none (inl ends) = ends
 none_of_none w hung z none (inr (i, by, at, lies)) = let no : None ≡ Some by = ap (λ (hs : List (List (ℕ × ℕ))). slice_get hs i) (sym none) ∙ at in cc
 
-pub explored_patiently : AlikeCanEnd → PatientTellAll → (kept : List MachineState) (w : World) (names : Names) (maps : Bool)
-    (answers : List Found) (extent : Extent) (whole fit all refused : Bool) (limit : ℕ) (hung : List (List (ℕ × ℕ))) (budgets : Budgets) →
-    BeginsAt kept w → CameTo Richly kept extent limit
-    → whole ≡ is_whole extent → refused ≡ is_refused extent
-    → ((u : World) → IsFirst kept u → ArePatient u names maps answers) → (extent ≡ Whole → fit ≡ true → (i : ℕ) → IsAnsweredAt kept names maps answers i)
-    → AllHang kept hung → (whole ≡ true → fit ≡ true → AllLeadOrBeyond kept hung)
-    → (all ≡ true → (whole ≡ true) × (fit ≡ true)) → (all ≡ false → (whole ≡ false) ⊎ (fit ≡ false))
-    → (fit ≡ false → budgets ≡ RunOut) → (budgets ≡ Suffice → NoneRunsOut kept) → (budgets ≡ RunOut → CanRunOut kept)
-    → AreLedFreely kept → AreApart kept → HaveWholeBudgets kept → IsSearchedPatiently w names maps answers all refused limit (length kept) hung budgets
-explored_patiently ending law kept w names maps answers extent whole fit all refused limit hung budgets (fresh, first) came is_all is_cut
-    outcomes answered hangs leads every every_not unfit suffice out led apart budgeted =
-    let shown : IsShown kept w = (0, first.0, first.1, first.2) in
-    let whole_then : whole ≡ true → extent ≡ Whole = λ is. whole_of extent (sym is_all ∙ is) in
-    let not_then : refused ≡ true → whole ≡ false = λ is. is_all ∙ not_whole extent (sym is_cut ∙ is) in
-    let no_other : all ≡ true → NoOtherHangs w hung = λ is schedule z runs well. (
-    let a = every is in
-    ends_or_lies ending kept w z hung (leads a.0 a.1) fresh first (came.covers (whole_then a.0) w z schedule fresh shown runs well).0) in
-    record {
-      outcomes = outcomes w first;
-      complete = λ is. (let a = every is in law kept w names maps answers (came.covers (whole_then a.0)) fresh shown
-          (λ i m at ended. answered (whole_then a.0) a.1 i m at ended));
-      counted = are_reached_freely kept w first led (budgeted w fresh first) apart;
-      met = λ is uncut. elim (every_not is) [ inl a ↦ inl (came.met (limited_of extent (sym is_all ∙ a) (sym is_cut ∙ uncut))) | inr a ↦ inr (unfit a) ];
-      short = λ is. (
-        none_of_all all (λ yes. (let a : whole ≡ true = (every yes).0 in let b : whole ≡ false = not_then is in cc)),
-        came.short (refused_of extent (sym is_cut ∙ is)),
-      );
-      are_hung = λ i by at. hangs i by at w fresh first;
-      no_other = no_other;
-      none_hangs = λ is none schedule z runs well. none_of_none w hung z none (no_other is schedule z runs well);
-      suffice = λ is may. suffice is w fresh first may;
-      run_out = λ is. out is w first;
-    }
+-- ---- what a patient search found
+pub no_other_hangs : PermutedCanEnd → CoveredLieBeyond → BeyondIsExchanged → (peers : List Peer) (kept : List MachineState) (w : World)
+    (extent : Extent) (limit : ℕ) → BeginsAt kept w → CameTo (Richly peers) kept extent limit → (hung : List (List (ℕ × ℕ))) → extent ≡ Whole
+    → AllLeadOrBeyond peers kept hung → AreAllExchanged peers hung → StaysFirst peers kept → NoOtherHangs w hung
+no_other_hangs ending covered exchanged peers kept w extent limit begins came hung whole lead all stays schedule z runs well =
+    let first = begins.1 in
+    ends_or_lies ending covered exchanged peers kept w z hung lead all stays begins.0 first
+    (came.covers whole w z schedule begins.0 (0, first.0, first.1, first.2) runs well).0
+
+pub settled_unfit : (told fit fits : Bool) (judged budgets : Budgets) → (fits ≡ false → (told ≡ false) ⊎ (fit ≡ false))
+    → (told ≡ true → budgets ≡ judged) → (told ≡ false → budgets ≡ RunOut) → (fit ≡ false → judged ≡ RunOut) → fits ≡ false → budgets ≡ RunOut
+settled_unfit true fit fits judged budgets neither same out unfit is = elim (neither is) [
+  | inl a ↦ cc
+  | inr b ↦ same refl ∙ unfit b
+]
+settled_unfit false fit fits judged budgets neither same out unfit is = out refl
+
+pub settled_suffice : (told : Bool) (judged budgets : Budgets) → (told ≡ true → budgets ≡ judged) → (told ≡ false → budgets ≡ RunOut)
+    → budgets ≡ Suffice → judged ≡ Suffice
+settled_suffice true judged budgets same out is = sym (same refl) ∙ is
+settled_suffice false judged budgets same out is = let never : RunOut ≡ Suffice = sym (out refl) ∙ is in cc
+
+pub settled_out : (P : Type 0) (told : Bool) (judged budgets : Budgets) → (told ≡ true → budgets ≡ judged) → budgets ≡ RunOut
+    → (judged ≡ RunOut → P) → (told ≡ false → P) → P
+settled_out P true judged budgets same is first second = first (sym (same refl) ∙ is)
+settled_out P false judged budgets same is first second = second refl
+
+pub none_hangs_there : (w : World) (hung : List (List (ℕ × ℕ))) → NoOtherHangs w hung → hung ≡ [] → NoneHangs w
+none_hangs_there w hung no_other none schedule z runs well = none_of_none w hung z none (no_other schedule z runs well)
+
+module _ (law : PatientTellAll) (kept : List MachineState) (w : World) (names : Names) (maps : Bool) (answers : List Found) (extent : Extent)
+    (limit : ℕ) (begins : BeginsAt kept w) (came : CameToEnds ShowsEndsInBudget kept extent limit) (told all fits refused whole : Bool)
+    (is_all : whole ≡ is_whole extent) (is_cut : refused ≡ is_refused extent) (every : all ≡ true → (whole ≡ true) × (fits ≡ true))
+    (every_not : all ≡ false → (whole ≡ false) ⊎ (fits ≡ false)) where
+  pub all_whole : all ≡ true → extent ≡ Whole
+  all_whole is = whole_of extent (sym is_all ∙ (every is).0)
+
+  pub tells_all : (fits ≡ true → told ≡ true) → (told ≡ true → (i : ℕ) → IsAnsweredAt kept names maps answers i) → all ≡ true
+      → HaveAllPatient w names maps answers
+  tells_all fit answered is =
+      law kept w names maps answers (came.ends (all_whole is)) begins (λ i m at ended. answered (fit (every is).1) i m at ended)
+
+  pub met_it : (budgets : Budgets) → (fits ≡ false → budgets ≡ RunOut) → all ≡ false → refused ≡ false → (limit < length kept) ⊎ (budgets ≡ RunOut)
+  met_it budgets unfit is uncut = elim (every_not is) [
+    | inl a ↦ inl (came.met (limited_of extent (sym is_all ∙ a) (sym is_cut ∙ uncut)))
+    | inr a ↦ inr (unfit a)
+  ]
+
+  pub cut_it : refused ≡ true → (all ≡ false) × (length kept ≤ limit)
+  cut_it is = (
+    none_of_all all (λ yes_it. (
+        let a : whole ≡ true = (every yes_it).0 in
+        let b : whole ≡ false = is_all ∙ not_whole extent (sym is_cut ∙ is) in
+        cc)),
+    came.short (refused_of extent (sym is_cut ∙ is)),
+  )

@@ -34,25 +34,22 @@ use Rattle.bpf_equal.specs.Permutations.{Exchanges, Permutation, exchanged}
 use Rattle.bpf_equal.specs.Races.{StaysExchanged}
 use Rattle.bpf_equal.specs.Stores.{store_permuted}
 use Rattle.bpf_equal.specs.Covers.{KeepsEnds}
+use Rattle.bpf_equal.specs.Patient.{ExchangesAreSymmetries}
 use Rattle.bpf_equal.specs.Worlds.{AreOneStage, ArePartners, IsAsFar, IsBlind, IsPermuted}
 use Rattle.bpf_equal.proofs.Back.{inverse, permuted_back}
-use Rattle.bpf_equal.proofs.Turns.{schedules_are_permuted}
 use Rattle.bpf_equal.proofs.Exchanging.{either_way, exchange, exchanged_so, first_goes, moved, others_stay, second_goes, twice}
-use Rattle.bpf_explore.specs.Album.{AreLed, BeginsAt, HaveEndedAt, IsShownAt, LeadsFrom, Stock}
+use Rattle.bpf_explore.specs.Album.{AreLedThrough, BeginsAt, HaveEndedAt, IsShownAt, LeadsThrough, Stock}
 use Rattle.bpf_explore.specs.Private.Answers.{IsFirst}
-use Rattle.bpf_explore.specs.Private.Peers.{AreOfKind, CanExchange, FitPeers, IsExchanged, IsKeptExchanged, IsOfKind}
+use Rattle.bpf_explore.specs.Private.Hung.{StaysFirst}
+use Rattle.bpf_explore.specs.Private.Spread.{AreRuns}
+use Rattle.bpf_explore.specs.Private.Peers.{AreOfKind, AreStill, CanExchange, FitPeers, IsExchanged, IsKeptExchanged, IsOfKind}
 use Rattle.bpf_explore.proofs.ExchangeLaws.{exchanged_beyond, exchanged_within, none_past}
 
--- ---- what turns leave of jobs: their CPUs, programs and budgets
-pub record AreStill (old new : List Task) : Type 0 where
-  pub many : length new ≡ length old
-  pub each : (i : ℕ) (task : Task) → slice_get new i ≡ Some task → (was : Task) × (slice_get old i ≡ Some was)
-      × (task.cpu ≡ was.cpu) × (task.program ≡ was.program) × (task.budget ≡ was.budget)
-
-still_itself : (jobs : List Task) → AreStill jobs jobs
+-- ---- what turns leave of jobs
+pub still_itself : (jobs : List Task) → AreStill jobs jobs
 still_itself jobs = record { many = refl; each = λ i task at. (task, at, refl, refl, refl) }
 
-still_on : (a b c : List Task) → AreStill a b → AreStill b c → AreStill a c
+pub still_on : (a b c : List Task) → AreStill a b → AreStill b c → AreStill a c
 still_on a b c first second = record {
   many = second.many ∙ first.many;
   each = λ i task at.
@@ -61,7 +58,7 @@ still_on a b c first second = record {
       (s.0, s.1, r.2 ∙ s.2, r.3 ∙ s.3, r.4 ∙ s.4);
 }
 
-staged_still : (jobs : List Task) (j : ℕ) (task : Task) (stage : Stage) → slice_get jobs j ≡ Some task → AreStill jobs (with_stage jobs j task stage)
+pub staged_still : (jobs : List Task) (j : ℕ) (task : Task) (stage : Stage) → slice_get jobs j ≡ Some task → AreStill jobs (with_stage jobs j task stage)
 staged_still jobs j task stage here = record {
   many = simp length-set;
   each = λ i one at. elim (equal_or_not i j) [
@@ -94,7 +91,7 @@ gone : (w z : World) (c j : ℕ) (task : Task) (old : Cpu) (left : ℕ) (answer 
 gone w z c j task old left answer at (program, end, s, new, rest, loaded, advances, settles) =
     settled (record w { store = s }) z c j task new rest end answer at settles
 
-turned_still : (w z : World) (c : ℕ) (answer : Turn) → TakesTurn w c answer z → AreStill w.jobs z.jobs
+pub turned_still : (w z : World) (c : ℕ) (answer : Turn) → TakesTurn w c answer z → AreStill w.jobs z.jobs
 turned_still w z c answer (inl (j, task, state, left, at, goes)) = gone w z c j task state left answer at.listed goes
 turned_still w z c answer (inr (inl (free, (j, task, input, s, at, none, allowed, goes)))) =
     gone (record w { store = s }) z c j task (start c input) task.budget answer at.listed goes
@@ -385,8 +382,8 @@ module _ (stock : Stock) (peers : List Peer) (are : ArePeers stock.shape stock.p
 one_machine : (kept : List MachineState) (i : ℕ) (m n : MachineState) → slice_get kept i ≡ Some m → slice_get kept i ≡ Some n → m ≡ n
 one_machine kept i m n a b = let two : Some m ≡ Some n = sym a ∙ b in cc
 
-module _ (stock : Stock) (kept : List MachineState) (peers : List Peer) (can : CanExchange stock kept peers) (kinds : AreOfKind stock kept)
-    (led : AreLed kept) where
+module _ (runs : World → List ℕ → World → Type 0) (law : AreRuns runs) (stock : Stock) (kept : List MachineState) (peers : List Peer)
+    (can : CanExchange stock kept peers) (kinds : AreOfKind stock kept) (led : AreLedThrough runs kept) where
   pub jobs_there : (j : ℕ) (one : Peer) → slice_get peers j ≡ Some one → (i : ℕ) (m : MachineState) → slice_get kept i ≡ Some m → AreJobsOf peers m.jobs
   jobs_there j one peer i m at =
       let w = can.fresh.0 in
@@ -394,7 +391,7 @@ module _ (stock : Stock) (kept : List MachineState) (peers : List Peer) (can : C
       let path = led i (slice_get_within kept i m at) in
       let r = path.1 w first in
       let begun = subst (AreJobsOf peers) (sym first.2.jobs) (can.fit.first j one first.0 peer first.1).0 in
-      let there = jobs_still peers w.jobs (r.0).jobs (runs_still path.0 w r.0 r.1) begun in
+      let there = jobs_still peers w.jobs (r.0).jobs (law.still path.0 w r.0 r.1) begun in
       let same = one_machine kept i (r.2).0 m (r.2).1 at in
       subst (λ (n : MachineState). AreJobsOf peers n.jobs) same (subst (AreJobsOf peers) (r.2).2.jobs there)
 
@@ -433,15 +430,15 @@ module _ (stock : Stock) (kept : List MachineState) (peers : List Peer) (can : C
 
   -- what an exchange leads to
   pub leads_exchanged : (i j k : ℕ) (m new : MachineState) (one other : Peer) → AreOneGroup peers j k one other → j ≢ k → slice_get kept i ≡ Some m
-      → HaveEnded m.jobs → IsExchanged j k m new → (schedule : List ℕ) → LeadsFrom kept 0 schedule i → (w : World) → IsShownAt kept 0 w
-      → (y : World) × RunsSchedule w (map (exchanged one.cpu other.cpu) schedule) y × Shows new y
+      → HaveEnded m.jobs → IsExchanged j k m new → (schedule : List ℕ) → LeadsThrough runs kept 0 schedule i → (w : World) → IsShownAt kept 0 w
+      → (y : World) × runs w (map (exchanged one.cpu other.cpu) schedule) y × Shows new y
   leads_exchanged i j k m new one other group apart at ended exchanges schedule leads w shown =
       let r = leads w shown in
       let same = one_machine kept i (r.2).0 m (r.2).1 at in
       let shows = subst (λ (n : MachineState). Shows n r.0) same (r.2).2 in
       let cpus = exchange one.cpu other.cpu in
       let places = exchange j k in
-      let s = schedules_are_permuted cpus places w w r.0 schedule (symmetric w shown j k one other group apart) r.1 in (
+      let s = law.permuted cpus places w w r.0 schedule (symmetric w shown j k one other group apart) r.1 in (
         s.0,
         s.1,
         shown_exchanged stock peers can.fit.are m new (kinds i m at) (jobs_there j one group.first i m at) ended j k one other group exchanges r.0 s.0
@@ -511,15 +508,29 @@ module _ (stock : Stock) (kept : List MachineState) (peers : List Peer) (can : C
         (λ x. ((on_jobs x).1, (on_jobs x).0)) (permuted_back cpus places v w p)
 
 -- ---- the first machine
-pub equal_stay : (stock : Stock) (kept : List MachineState) (peers : List Peer) → FitPeers stock kept peers → AreOfKind stock kept → AreLed kept
+pub equal_stay : (runs : World → List ℕ → World → Type 0) → AreRuns runs → (stock : Stock) (kept : List MachineState) (peers : List Peer) →
+    FitPeers stock kept peers → AreOfKind stock kept
+    → AreLedThrough runs kept
     → (w : World) → BeginsAt kept w → StaysExchanged peers w
-equal_stay stock kept peers fit kinds led w begins c d (j, k, one, other, less, group, is_c, is_d) =
+equal_stay runs law stock kept peers fit kinds led w begins c d (j, k, one, other, less, group, is_c, is_d) =
     let can : CanExchange stock kept peers = record { fit = fit; fresh = (w, begins.0, begins.1) } in
     let apart : j ≢ k = λ e. omega (arith, e, less) in
-    let stays = symmetric stock kept peers can kinds led w begins.1 j k one other group apart in (
+    let stays = symmetric runs law stock kept peers can kinds led w begins.1 j k one other group apart in (
       exchange c d,
       exchange j k,
       λ x. (refl, refl),
       subst (λ (n : ℕ). IsPermuted (exchange n d) (exchange j k) w w) is_c
           (subst (λ (n : ℕ). IsPermuted (exchange one.cpu n) (exchange j k) w w) is_d stays),
     )
+
+-- each exchange of two equal jobs leaves it as it is
+pub stays_first : ExchangesAreSymmetries → (runs : World → List ℕ → World → Type 0) → AreRuns runs → (stock : Stock) (kept : List MachineState)
+    (peers : List Peer) → CanExchange stock kept peers → AreOfKind stock kept → AreLedThrough runs kept → StaysFirst peers kept
+stays_first symmetries runs law stock kept peers can kinds led w fresh first =
+    symmetries peers w (λ j k one other less group. (
+      exchange one.cpu other.cpu,
+      exchange j k,
+      λ x. (refl, refl),
+      λ x. (refl, refl),
+      symmetric runs law stock kept peers can kinds led w first j k one other group (λ e. omega (arith, e, less)),
+    ))

@@ -15,11 +15,11 @@ use Rattle.bpf_equal.specs.Groups.{ArePeers}
 use Rattle.bpf_equal.specs.declared.peers.Peer.{Peer}
 use Rattle.bpf_explore.specs.declared.frontier.Extent.{Extent}
 use Rattle.bpf_explore.specs.declared.frontier.Extent.TheVariants.{Whole, Limited, Refused}
-use Rattle.bpf_explore.specs.Album.{BeginsAt, HasMore, IsNumbered, Stock}
+use Rattle.bpf_explore.specs.Album.{BeginsAt, HasMore, HaveWholeBudgets, IsNumbered, Stock}
 use Rattle.bpf_explore.specs.Scouts.{IsTurnAhead}
-use Rattle.bpf_explore.specs.Search.{Alike, Permuted, CameTo, CameToEnds, CoversAll, Extends, IsKept, IsTurned, ShowsEnds, is_whole}
-use Rattle.bpf_explore.specs.Private.Answers.{StartsFresh}
-use Rattle.bpf_explore.specs.Private.Peers.{FitPeers}
+use Rattle.bpf_explore.specs.Search.{Alike, Manner, Permuted, Richly, CameTo, CameToEnds, CoversAll, Extends, IsTurned, ShowsEnds, ShowsEndsInBudget, is_whole}
+use Rattle.bpf_explore.specs.Private.Answers.{IsFirst, StartsFresh}
+use Rattle.bpf_explore.specs.Private.Peers.{AreAllRefilled, FitPeers, IsKeptElsewhereAt}
 use Rattle.bpf_explore.specs.Private.Permuted.{AreTwins}
 use Rattle.bpf_explore.proofs.SearchLaws.{shown_still}
 use Rattle.bpf_explore.proofs.ScoutLaws.{leads_exactly}
@@ -31,14 +31,18 @@ pub alike_permuted : (peers : List Peer) (kept : List MachineState) (i c : ℕ) 
 alike_permuted peers kept i c turned m there = let r = turned m there in (r.0, r.1, λ w shows. (w, (0, refl), r.2 w shows))
 
 -- a turn to a machine that is kept but for places
-pub known_turned : (peers : List Peer) (kept : List MachineState) (stock : Stock) (place c n : ℕ) (numbers : List ℕ)
+pub known_turned : (peers : List Peer) (kept : List MachineState) (stock : Stock) (place c n i : ℕ) (numbers : List ℕ)
     → IsTurnAhead false kept stock place c n numbers
-    → ((m : MachineState) → IsNumbered stock m numbers → IsKept (Permuted peers) kept m) → IsTurned (Permuted peers) kept place c
-known_turned peers kept stock place c n numbers is known m there =
+    → ((m : MachineState) → IsNumbered stock m numbers → IsKeptElsewhereAt peers kept i m) → IsTurned (Permuted peers) kept place c
+known_turned peers kept stock place c n i numbers is known m there =
     let leads = leads_exactly kept place c n is.0 is.1 in
     let two : Some is.1.old ≡ Some m = sym is.1.at ∙ there in
     let same : is.1.old ≡ m = cc in
-    (is.0, subst (λ (o : MachineState). TurnsTo o c is.0) same leads.turns, known is.0 is.2)
+    let elsewhere = known is.0 is.2 in (
+      is.0,
+      subst (λ (o : MachineState). TurnsTo o c is.0) same leads.turns,
+      λ w shows. (let r = elsewhere w shows in (r.0, r.1, (r.2.0, r.2.1, (i, r.2.2.0, r.2.2.1, r.2.2.2)))),
+    )
 
 -- ---- while more is kept
 pub first_still : (old new : List MachineState) → 0 < length old → Extends old new → slice_get new 0 ≡ slice_get old 0
@@ -108,14 +112,29 @@ module _ (law : KeptEndsAreShown) (peers : List Peer) (old new : List MachineSta
       let r = (covers w z schedule b.0 (0, b.1.0, b.1.1, b.1.2) runs).1 ended in
       law peers new z keeps (r.0, r.1, shown_still old new longer r.0 r.2) ended
 
-  pub closed_came : (extent closed : Extent) (limit : ℕ) → extent ≡ Whole → (closed ≡ Whole → KeepsEnds peers new)
-      → (closed ≡ Limited → limit < length new) → (closed ≡ Refused → length new ≤ limit) → CameTo (Permuted peers) old extent limit
-      → CameToEnds new closed limit
-  closed_came extent closed limit all keeps met short came = record {
-    ends = λ is. ends_shown (came.covers all) (keeps is);
-    met = met;
-    short = short;
-  }
+  pub ends_shown_in_budget : CoversAll (Richly peers) old → KeepsEnds peers new → ShowsEndsInBudget new
+  ends_shown_in_budget covers keeps w z schedule begins runs well ended =
+      let b = began w begins in
+      let r = (covers w z schedule b.0 (0, b.1.0, b.1.1, b.1.2) runs well).1 ended in
+      law peers new z keeps (r.0, r.1, shown_still old new longer r.0 r.2) ended
+
+-- what the first of more shows, the first shows
+pub first_there : (old new : List MachineState) → StartsFresh old → Extends old new → (w : World) → IsFirst new w → IsFirst old w
+first_there old new fresh longer w (one, at, shows) = (one, sym (first_still old new (one_there old fresh) longer) ∙ at, shows)
+
+pub whole_still : (old new : List MachineState) → StartsFresh old → Extends old new → (AreAllRefilled old → AreAllRefilled new)
+    → HaveWholeBudgets old → HaveWholeBudgets new
+whole_still old new begins longer more whole w fresh shown = more (whole w fresh (first_there old new begins longer w shown))
+
+-- the ends were kept besides
+pub closed_came : (Ends : List MachineState → Type 0) (manner : Manner) (old new : List MachineState) (extent closed : Extent) (limit : ℕ)
+    → (CoversAll manner old → closed ≡ Whole → Ends new) → extent ≡ Whole → (closed ≡ Limited → limit < length new)
+    → (closed ≡ Refused → length new ≤ limit) → CameTo manner old extent limit → CameToEnds Ends new closed limit
+closed_came Ends manner old new extent closed limit shown all met short came = record {
+  ends = λ is. shown (came.covers all) is;
+  met = met;
+  short = short;
+}
 
 -- where something is left to be kept
 not_whole : (extent : Extent) → is_whole extent ≡ false → extent ≡ Whole → ⊥
@@ -124,9 +143,9 @@ not_whole extent part all = apart (sym (ap is_whole all) ∙ part)
     apart : true ≡ false → ⊥
     apart e = cc
 
-pub part_came : (peers : List Peer) (kept : List MachineState) (extent : Extent) (limit : ℕ) → is_whole extent ≡ false
-    → CameTo (Permuted peers) kept extent limit → CameToEnds kept extent limit
-part_came peers kept extent limit part came = record {
+pub part_came : (Ends : List MachineState → Type 0) (manner : Manner) (kept : List MachineState) (extent : Extent) (limit : ℕ) → is_whole extent ≡ false
+    → CameTo manner kept extent limit → CameToEnds Ends kept extent limit
+part_came Ends manner kept extent limit part came = record {
   ends = λ is. absurd (not_whole extent part is);
   met = came.met;
   short = came.short;

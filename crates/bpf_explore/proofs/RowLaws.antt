@@ -73,7 +73,7 @@ rows_at cpus (suc n) i c less own =
     ]
 
 -- ---- all of them
-pub are_turns : (kept : List MachineState) (turns : Turns) → AreEdges kept (edges_of turns.cpus turns.arrivals.items) → map turn_of
+pub are_turns : (kept : List MachineState) (turns : Turns) → AreEdges turns.peers.items kept (edges_of turns.cpus turns.arrivals.items) → map turn_of
     (edges_of turns.cpus turns.arrivals.items) ≡ rows_of turns.cpus (length kept) → ((i c : ℕ) → turns.cpus ≤ c → IsIdleAt kept i c) →
     AreTurns kept turns
 are_turns kept turns are made idle =

@@ -9,8 +9,7 @@ use Rattle.bpf_machine.specs.Schedule.{World}
 use Rattle.bpf_machine.specs.Machine.{MachineState}
 use Rattle.bpf_machine.specs.Cover.{IsShown}
 use Rattle.bpf_alike.specs.Covers.{AlikeSetsCover}
-use Rattle.bpf_alike.specs.Patient.{AlikePatientSetsCover}
-use Rattle.bpf_equal.specs.Covers.{PermutedSetsCover}
+use Rattle.bpf_equal.specs.Covers.{PermutedPatientSetsCover, PermutedSetsCover}
 use Rattle.bpf_alike.proofs.Like.{all_like}
 use Rattle.bpf_machine.proofs.CoverLaws.{idle_turns_to}
 use Rattle.bpf_machine.proofs.PatientLaws.{all_same}
@@ -33,7 +32,7 @@ module _ (old new : List MachineState) (more : Extends old new) where
   pub kept_still : (manner : Manner) (m : MachineState) → IsKept manner old m → IsKept manner new m
   kept_still Alike m is = λ w shows. (let r = is w shows in (r.0, r.1, shown_still _ r.2))
   kept_still (Permuted peers) m is = λ w shows. (let r = is w shows in (r.0, r.1, (r.2.0, r.2.1, shown_still _ r.2.2)))
-  kept_still Richly m is = λ w shows. (let r = is w shows in (r.0, r.1, (r.2.0, r.2.1, shown_still _ r.2.2)))
+  kept_still (Richly peers) m is = λ w shows. (let r = is w shows in (r.0, r.1, (r.2.0, r.2.1, (r.2.2.0, r.2.2.1, shown_still _ r.2.2.2))))
 
   pub turned_still : (manner : Manner) (i c : ℕ) → i < length old → IsTurned manner old i c → IsTurned manner new i c
   turned_still manner i c inside turned m there =
@@ -47,7 +46,8 @@ module _ (old new : List MachineState) (more : Extends old new) where
 kept_there : (manner : Manner) (kept : List MachineState) (i : ℕ) (m : MachineState) → slice_get kept i ≡ Some m → IsKept manner kept m
 kept_there Alike kept i m there = λ w shows. (w.jobs, all_like w.programs w.jobs, (i, m, there, shows))
 kept_there (Permuted peers) kept i m there = λ w shows. (w, (0, refl), (w.jobs, all_like w.programs w.jobs, (i, m, there, shows)))
-kept_there Richly kept i m there = λ w shows. (w.jobs, all_same w.jobs, (w.jobs, all_like w.programs w.jobs, (i, m, there, shows)))
+kept_there (Richly peers) kept i m there =
+    λ w shows. (w, (0, refl), (w.jobs, all_same w.jobs, (w.jobs, all_like w.programs w.jobs, (i, m, there, shows))))
 
 pub idle_turned : (manner : Manner) (kept : List MachineState) (i c : ℕ) → IsIdleAt kept i c → IsTurned manner kept i c
 idle_turned manner kept i c idle m there =
@@ -118,15 +118,16 @@ next_expanded manner now later old kept new next far less more same expanded =
 whole : (manner : Manner) (kept : List MachineState) → ((i : ℕ) → i < length kept → IsExpanded manner kept i) → IsWhole manner kept
 whole Alike kept expanded = λ i m c there. expanded i (slice_get_within kept i m there) c m there
 whole (Permuted peers) kept expanded = λ i m c there. expanded i (slice_get_within kept i m there) c m there
-whole Richly kept expanded = λ i m c there. expanded i (slice_get_within kept i m there) c m there
+whole (Richly peers) kept expanded = λ i m c there. expanded i (slice_get_within kept i m there) c m there
 
 pub all_expanded : (manner now : Manner) (old kept : List MachineState) (next : ℕ) → length kept ≤ next → ExpandedSoFar manner old next now
     kept → IsWhole now kept
 all_expanded manner now old kept next past far =
     whole now kept (λ i inside. subst (λ (k : Manner). IsExpanded k kept i) (sym far.same) (far.expanded i (omega arith)))
 
-pub covers_all : AlikeSetsCover → AlikePatientSetsCover → PermutedSetsCover → (manner : Manner) (kept : List MachineState) → IsWhole manner
+pub covers_all : AlikeSetsCover → PermutedPatientSetsCover → PermutedSetsCover → (manner : Manner) (kept : List MachineState) → IsWhole manner
     kept → CoversAll manner kept
 covers_all law patiently places Alike kept closed = λ w z schedule fresh shown runs. law kept w z schedule closed fresh shown runs
 covers_all law patiently places (Permuted peers) kept closed = λ w z schedule fresh shown runs. places peers kept w z schedule closed fresh shown runs
-covers_all law patiently places Richly kept closed = λ w z schedule fresh shown runs none. patiently kept w z schedule closed fresh shown runs none
+covers_all law patiently places (Richly peers) kept closed = λ w z schedule fresh shown runs none. patiently peers kept w z schedule closed
+    fresh shown runs none

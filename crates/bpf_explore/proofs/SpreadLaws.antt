@@ -7,14 +7,14 @@ use Rattle.std.proofs.lemmas.List.{map-append, length-take-le, take-append-drop,
 use Rattle.std.proofs.lemmas.List.Edits.{map_over_more}
 use Rattle.std.proofs.lemmas.Option.{slice_get_read, get_or_from_slice_get}
 use Rattle.bpf_machine.specs.Machine.{MachineState}
-use Rattle.bpf_machine.specs.Schedule.{RunsSchedule, unrolled}
+use Rattle.bpf_machine.specs.Schedule.{World, unrolled}
 use Rattle.bpf_equal.specs.Permutations.{exchanged}
 use Rattle.bpf_explore.specs.declared.explorer.Origin.{Origin}
 use Rattle.bpf_explore.specs.declared.spread.Swap.{Swap}
-use Rattle.bpf_explore.specs.Album.{AreLed, LeadsFrom}
-use Rattle.bpf_explore.specs.Private.Spread.{AreSpread, IsSwap, exchanged_by, no_swap, swap_at}
+use Rattle.bpf_explore.specs.Album.{AreLedThrough, LeadsThrough}
+use Rattle.bpf_explore.specs.Private.Spread.{AreRuns, AreSpread, IsSwap, exchanged_by, no_swap, swap_at}
 use Rattle.bpf_explore.specs.Private.Trail.{AreOrigins}
-use Rattle.bpf_explore.proofs.TrailLaws.{schedules_join, leads_still, are_led}
+use Rattle.bpf_explore.proofs.TrailLaws.{leads_still, are_led}
 
 -- ---- a schedule in which two CPUs change places
 abbrev pub swapped_run : ℕ → ℕ → ℕ × ℕ → ℕ × ℕ
@@ -68,19 +68,21 @@ read_swap swaps k state first swap inside read place =
     ap (swap_at swaps) (sym place) ∙ get_or_from_slice_get swaps k swap no_swap (slice_get_read swaps (length swaps) k swap refl inside read)
 
 -- ---- what came about by turns alone
-pub none_swapped : (kept : List MachineState) (origins : List Origin) (swaps : List Swap) → swaps ≡ [] → AreOrigins RunsSchedule kept origins
-    → AreSpread kept origins swaps
-none_swapped kept origins swaps none are =
+pub none_swapped : (runs : World → List ℕ → World → Type 0) (kept : List MachineState) (origins : List Origin) (swaps : List Swap) → swaps ≡
+    [] → AreOrigins runs kept origins
+    → AreSpread runs kept origins swaps
+none_swapped runs kept origins swaps none are =
     let count = are.count in
     let size : length swaps ≡ 0 = ap (λ (ss : List Swap). length ss) none in
     record {
-      turns = subst (λ (ms : List MachineState). AreOrigins RunsSchedule ms origins)
+      turns = subst (λ (ms : List MachineState). AreOrigins runs ms origins)
           (sym (take_all (length origins) kept (omega arith))) are;
       count = omega arith;
       each = λ s less. absurd (omega arith);
     }
 
-module _ (kept : List MachineState) (origins : List Origin) (swaps : List Swap) (are : AreSpread kept origins swaps) where
+module _ (runs : World → List ℕ → World → Type 0) (law : AreRuns runs) (kept : List MachineState) (origins : List Origin)
+    (swaps : List Swap) (are : AreSpread runs kept origins swaps) where
   abbrev pub First : List MachineState
   First = take (length origins) kept
 
@@ -88,27 +90,27 @@ module _ (kept : List MachineState) (origins : List Origin) (swaps : List Swap) 
   as_many = let count = are.count in length-take-le (length origins) kept (omega arith)
 
   -- what leads there among the first leads there among all
-  pub leads_among_all : (i : ℕ) (schedule : List ℕ) → i < length origins → LeadsFrom First 0 schedule i → LeadsFrom kept 0 schedule i
+  pub leads_among_all : (i : ℕ) (schedule : List ℕ) → i < length origins → LeadsThrough runs First 0 schedule i → LeadsThrough runs kept 0 schedule i
   leads_among_all i schedule inside leads =
       let many = as_many in
-      subst (λ (ms : List MachineState). LeadsFrom ms 0 schedule i) (take-append-drop (length origins) kept)
-      (leads_still RunsSchedule schedules_join First (drop (length origins) kept) 0 i schedule (omega arith) leads)
+      subst (λ (ms : List MachineState). LeadsThrough runs ms 0 schedule i) (take-append-drop (length origins) kept)
+      (leads_still runs law.join First (drop (length origins) kept) 0 i schedule (omega arith) leads)
 
   pub swap_is : (state : ℕ) (swap : Swap) → length origins ≤ state → state < length kept → swap_at swaps (state - length origins) ≡ swap
-      → IsSwap kept state swap
+      → IsSwap runs kept state swap
   swap_is state swap past inside at =
       let count = are.count in
       let place : length origins + (state - length origins) ≡ state = omega arith in
-      subst (λ (i : ℕ). IsSwap kept i swap) place
-      (subst (IsSwap kept (length origins + (state - length origins))) at (are.each (state - length origins) (omega arith)))
+      subst (λ (i : ℕ). IsSwap runs kept i swap) place
+      (subst (IsSwap runs kept (length origins + (state - length origins))) at (are.each (state - length origins) (omega arith)))
 
   -- ---- a schedule to each
-  led_within : (n i : ℕ) → i < n → i < length kept → (schedule : List ℕ) × LeadsFrom kept 0 schedule i
+  led_within : (n i : ℕ) → i < n → i < length kept → (schedule : List ℕ) × LeadsThrough runs kept 0 schedule i
   led_within zero i less inside = absurd (omega arith)
   led_within (suc n) i less inside = elim (cases_lt i (length origins)) [
     | inl below ↦
         let many = as_many in
-        let r = are_led RunsSchedule schedules_join First origins are.turns i (omega arith) in
+        let r = are_led runs law.join First origins are.turns i (omega arith) in
         (r.0, leads_among_all i r.0 below r.1)
     | inr past ↦
         let swap = swap_at swaps (i - length origins) in
@@ -118,12 +120,12 @@ module _ (kept : List MachineState) (origins : List Origin) (swaps : List Swap) 
         (map (exchanged swap.one swap.other) far.0, is.leads far.0 far.1)
   ]
 
-  pub all_led : AreLed kept
+  pub all_led : AreLedThrough runs kept
   all_led i inside = led_within (suc i) i (omega arith) inside
 
   -- ---- the way back over exchanges
   abbrev pub WayOn : ℕ → List Swap → ℕ → Type 0
-  WayOn state noted place = (schedule : List ℕ) → LeadsFrom kept 0 schedule state → LeadsFrom kept 0 (exchanged_by noted schedule) place
+  WayOn state noted place = (schedule : List ℕ) → LeadsThrough runs kept 0 schedule state → LeadsThrough runs kept 0 (exchanged_by noted schedule) place
 
   pub one_swap_back : (state place : ℕ) (swap : Swap) (noted new : List Swap) → length origins ≤ state → state < length kept
       → swap_at swaps (state - length origins) ≡ swap → WayOn state noted place → new ≡ noted ++ swap ∷ []
@@ -135,14 +137,15 @@ module _ (kept : List MachineState) (origins : List Origin) (swaps : List Swap) 
         λ schedule leads.
             let all : exchanged_by new schedule ≡ exchanged_by noted (map (exchanged swap.one swap.other) schedule) = ap
             (λ (ss : List Swap). exchanged_by ss schedule) more ∙ exchanged_more noted swap schedule in
-            subst (λ (cs : List ℕ). LeadsFrom kept 0 cs place) (sym all) (way (map (exchanged swap.one swap.other) schedule) (is.leads schedule leads)),
+            subst (λ (cs : List ℕ). LeadsThrough runs kept 0 cs place) (sym all) (way (map (exchanged swap.one swap.other) schedule) (is.leads schedule leads)),
       )
 
 -- one exchange is made in the schedule
-pub one_swap_made : (kept : List MachineState) (place : ℕ) (swap : Swap) (noted rest : List Swap) (by new : List (ℕ × ℕ))
+pub one_swap_made : (runs : World → List ℕ → World → Type 0) (kept : List MachineState) (place : ℕ) (swap : Swap) (noted rest : List Swap)
+    (by new : List (ℕ × ℕ))
     → noted ≡ rest ++ swap ∷ [] → unrolled new ≡ map (exchanged swap.one swap.other) (unrolled by)
-    → LeadsFrom kept 0 (exchanged_by noted (unrolled by)) place → LeadsFrom kept 0 (exchanged_by rest (unrolled new)) place
-one_swap_made kept place swap noted rest by new is made leads =
+    → LeadsThrough runs kept 0 (exchanged_by noted (unrolled by)) place → LeadsThrough runs kept 0 (exchanged_by rest (unrolled new)) place
+one_swap_made runs kept place swap noted rest by new is made leads =
     let all : exchanged_by noted (unrolled by) ≡ exchanged_by rest (unrolled new) = ap (λ (ss : List Swap). exchanged_by ss (unrolled by)) is
     ∙ (exchanged_more rest swap (unrolled by) ∙ ap (exchanged_by rest) (sym made)) in
-    subst (λ (cs : List ℕ). LeadsFrom kept 0 cs place) all leads
+    subst (λ (cs : List ℕ). LeadsThrough runs kept 0 cs place) all leads

@@ -20,13 +20,9 @@ use Rattle.bpf_explore.specs.Album.{IsShownAt, LeadsThrough, AreLed, AreLedFreel
 use Rattle.bpf_explore.specs.Outcomes.{AreReached}
 use Rattle.bpf_explore.specs.Patient.{AreReachedFreely}
 use Rattle.bpf_explore.specs.Private.Album.{AddsOne}
-use Rattle.bpf_explore.specs.Private.Trail.{no_origin, origin_at, IsOrigin, AreOrigins}
+use Rattle.bpf_explore.specs.Private.Trail.{no_origin, origin_at, IsOrigin, AreOrigins, StayAndJoin}
 
 -- ---- schedules, one after the other
--- no turn leads nowhere, and turns may come after others
-abbrev pub StayAndJoin : (World → List ℕ → World → Type 0) → Type 0
-StayAndJoin runs = ((w : World) → runs w [] w) × ((w m z : World) (cs ds : List ℕ) → runs w cs m → runs m ds z → runs w (cs ++ ds) z)
-
 runs_both : (w : World) (cs ds : List ℕ) (m z : World) → RunsSchedule w cs m → RunsSchedule m ds z → RunsSchedule w (cs ++ ds) z
 runs_both w [] ds m z first second = subst (λ (x : World). RunsSchedule x ds z) first second
 runs_both w (c ∷ cs) ds m z first second = (first.0, first.1, first.2, runs_both first.1 cs ds m z first.3 second)

@@ -67,13 +67,14 @@ pub record AlbumState : Type 0 where
   pub cpus : ℕ
   pub stock : Stock
 
--- the same of a patient search, and the turns that were made, in their order: from which kept machine,
--- and by which CPU
+-- the same of a patient search but for what they are kept as, the turns that were made, in their order:
+-- from which kept machine, and by which CPU; and which jobs are equal
 pub record PatientState : Type 0 where
   pub machine : MachineState
   pub kept : List MachineState
   pub cpus : ℕ
   pub made : List (ℕ × ℕ)
+  pub peers : List Peer
 
 -- what is kept, and which jobs are equal
 pub record PermutedState : Type 0 where
@@ -117,13 +118,17 @@ LeadsFrom kept i schedule j = (w : World) → IsShownAt kept i w
 abbrev pub LeadsFreely : List MachineState → ℕ → List ℕ → ℕ → Type 0
 LeadsFreely kept i schedule j = LeadsThrough RunsFreely kept i schedule j
 
--- some schedule leads to each from the first
+-- some schedule leads to each from the first, in runs of this kind
+abbrev pub AreLedThrough : (World → List ℕ → World → Type 0) → List MachineState → Type 0
+AreLedThrough runs kept =
+    (i : ℕ) → i < length kept → (schedule : List ℕ) × LeadsThrough runs kept 0 schedule i
+
 abbrev pub AreLed : List MachineState → Type 0
-AreLed kept = (i : ℕ) → i < length kept → (schedule : List ℕ) × LeadsFrom kept 0 schedule i
+AreLed kept = AreLedThrough RunsSchedule kept
 
 -- so it does where jobs are given steps
 abbrev pub AreLedFreely : List MachineState → Type 0
-AreLedFreely kept = (i : ℕ) → i < length kept → (schedule : List ℕ) × LeadsFreely kept 0 schedule i
+AreLedFreely kept = AreLedThrough RunsFreely kept
 
 -- each job of the i-th has an outcome
 abbrev pub HaveEndedAt : List MachineState → ℕ → Type 0

@@ -1,23 +1,22 @@
 -- Outcomes in which no job is out of budget.
-use Rattle.std.specs.Prelude.{◌≡◌, ℕ, ◌<◌, ◌≤◌, ◌⊎◌, Bool, true, false, List, [], ◌∷◌, Some, length, slice_get}
+use Rattle.std.specs.Prelude.{◌≡◌, ℕ, ◌<◌, ◌≤◌, ◌⊎◌, Bool, true, false, List, [], Some, length, slice_get}
 use Rattle.std.specs.declared.cmp.Ordering.TheVariants.{Less}
 use Rattle.std.specs.Ordering.{nat_cmp}
 use Rattle.std.specs.Cmp.Lexicographic.{slice_cmp}
 use Rattle.bpf_names.specs.Names.{Names}
 use Rattle.bpf_machine.specs.Schedule.{World, RunsSchedule, unrolled}
 use Rattle.bpf_machine.specs.Rounds.{HaveEnded}
-use Rattle.bpf_machine.specs.Laws.{IsFresh}
-use Rattle.bpf_machine.specs.Machine.{MachineState, Shows}
-use Rattle.bpf_machine.specs.Cover.{IsShown}
+use Rattle.bpf_machine.specs.Machine.{MachineState}
 use Rattle.bpf_machine.specs.Patient.{NoneRanOut, AreRefilled}
-use Rattle.bpf_alike.specs.Patient.{IsCoveredAlikeRichly}
+use Rattle.bpf_equal.specs.Patient.{LiesBeyondOne}
 use Rattle.bpf_machine.specs.Ends.{RunsFreely, CanEnd, IsHung}
 use Rattle.bpf_machine.specs.Budgets.{MayRunOut}
 use Rattle.bpf_jobs.specs.Printed.{Tells}
 use Rattle.bpf_explore.specs.declared.budgets.Budgets.{Budgets}
 use Rattle.bpf_explore.specs.declared.budgets.Budgets.TheVariants.{Suffice, RunOut}
 use Rattle.bpf_explore.specs.Outcomes.{Found, IsTold}
-use Rattle.bpf_explore.specs.Search.{CoversAll, Richly}
+use Rattle.bpf_explore.specs.Album.{BeginsAt}
+use Rattle.bpf_explore.specs.Search.{ShowsEndsInBudget}
 use Rattle.bpf_explore.specs.Laws.{IsAnswered}
 
 -- some schedule leads to a machine without work, in which no job is out of budget, and of which this
@@ -65,21 +64,6 @@ HangsBy w by = (z : World) × RunsSchedule w (unrolled by) z × NoneRanOut z.job
 abbrev pub AreHung : World → List (List (ℕ × ℕ)) → Type 0
 AreHung w hung = (i : ℕ) (by : List (ℕ × ℕ)) → slice_get hung i ≡ Some by → HangsBy w by
 
--- turns lead from where the schedule leads to what the machine shows, where jobs are given steps
-abbrev pub LeadsOnTo : World → List (ℕ × ℕ) → MachineState → Type 0
-LeadsOnTo w by m = (y : World) × (schedule : List ℕ) × (z : World) × RunsSchedule w (unrolled by) y
-    × RunsFreely y schedule z × Shows m z
-
--- the world lies beyond: such a machine shows it, but for steps that are left, for turns that no store
--- sees and for dead registers
-abbrev pub LiesBeyond : World → List (ℕ × ℕ) → World → Type 0
-LiesBeyond w by z = (m : MachineState) × LeadsOnTo w by m × IsCoveredAlikeRichly (m ∷ []) z
-
--- so it does beyond one of these
-abbrev pub LiesBeyondOne : World → List (List (ℕ × ℕ)) → World → Type 0
-LiesBeyondOne w hung z = (i : ℕ) × (by : List (ℕ × ℕ)) × (slice_get hung i ≡ Some by)
-    × LiesBeyond w by z
-
 -- from all that schedules lead to before some job runs out of budget an end can be reached, but for
 -- what lies beyond one of these
 abbrev pub NoOtherHangs : World → List (List (ℕ × ℕ)) → Type 0
@@ -109,12 +93,12 @@ pub record IsSearchedPatiently (w : World) (names : Names) (maps : Bool)
   pub suffice : budgets ≡ Suffice → MayRunOut w → ⊥
   pub run_out : budgets ≡ RunOut → MayRunOut w
 
--- where kept machines cover all schedules in which no job runs out of budget, and what is printed of each
--- of them that has no work is an answer, no outcome in which no job is out of budget is left out
+-- where kept machines show each end in which no job is out of budget, and what is printed of each of them
+-- that has no work is an answer, none of these outcomes is left out
 abbrev pub PatientTellAll : Type 0
 PatientTellAll =
     (kept : List MachineState) (w : World) (names : Names) (maps : Bool)
-    (answers : List Found) → CoversAll Richly kept → IsFresh w → IsShown kept w
+    (answers : List Found) → ShowsEndsInBudget kept → BeginsAt kept w
     → ((i : ℕ) (m : MachineState) → slice_get kept i ≡ Some m → HaveEnded m.jobs
     → IsAnswered names maps answers m)
     → HaveAllPatient w names maps answers

@@ -13,5 +13,6 @@ pub mod Edges
 pub mod Replays
 pub mod Ends
 pub mod Hung
+pub mod Exchanged
 pub mod Depths
 pub mod Permuted

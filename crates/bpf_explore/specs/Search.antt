@@ -9,9 +9,9 @@ use Rattle.bpf_machine.specs.Hands.{IsFree, NoneWaits}
 use Rattle.bpf_machine.specs.Cover.{TurnsTo, IsShown}
 use Rattle.bpf_machine.specs.Patient.{NoneRanOut}
 use Rattle.bpf_alike.specs.Covers.{IsKeptAlike, IsShownAlike, IsClosedAlike, IsCoveredAlike}
-use Rattle.bpf_alike.specs.Patient.{IsKeptAlikeRichly, IsClosedAlikeRichly, IsCoveredAlikeRichly}
+use Rattle.bpf_alike.specs.Patient.{IsShownAlikeRichly}
 use Rattle.bpf_equal.specs.declared.peers.Peer.{Peer}
-use Rattle.bpf_equal.specs.Covers.{ButForPlaces, IsClosedPermuted, IsCoveredPermuted}
+use Rattle.bpf_equal.specs.Covers.{ButForPlaces, IsClosedPermuted, IsClosedPermutedRichly, IsCoveredPermuted, IsCoveredPermutedRichly}
 use Rattle.bpf_explore.specs.Album.{BeginsAt}
 use Rattle.bpf_explore.specs.declared.frontier.Extent.{Extent}
 use Rattle.bpf_explore.specs.declared.frontier.Extent.TheVariants.{Whole, Limited, Refused}
@@ -35,18 +35,19 @@ is_refused Limited = false
 is_refused Refused = true
 
 -- which machines count as kept: those of which a kept one shows all but dead registers; besides, where
--- equal jobs have changed places; or where jobs are richer
+-- equal jobs have changed places; or also where jobs are richer
 pub data Manner : Type 0 where
   Alike : Manner
   Permuted : List Peer → Manner
-  Richly : Manner
+  Richly : List Peer → Manner
 
 -- all that the machine shows, a kept one shows in this manner
 abbrev pub IsKept : Manner → List MachineState → MachineState → Type 0
 IsKept Alike kept m = IsKeptAlike kept m
 IsKept (Permuted peers) kept m =
     (w : World) → Shows m w → ButForPlaces peers (IsShownAlike kept) w
-IsKept Richly kept m = IsKeptAlikeRichly kept m
+IsKept (Richly peers) kept m =
+    (w : World) → Shows m w → ButForPlaces peers (IsShownAlikeRichly kept) w
 
 -- the CPU's turn was made from the i-th kept machine, and where it led is kept
 abbrev pub IsTurned : Manner → List MachineState → ℕ → ℕ → Type 0
@@ -80,7 +81,7 @@ Extends old new = (more : List MachineState) × (new ≡ old ++ more)
 abbrev pub IsWhole : Manner → List MachineState → Type 0
 IsWhole Alike kept = IsClosedAlike kept
 IsWhole (Permuted peers) kept = IsClosedPermuted peers kept
-IsWhole Richly kept = IsClosedAlikeRichly kept
+IsWhole (Richly peers) kept = IsClosedPermutedRichly peers kept
 
 -- all that schedules lead to from a kept machine before its first turn is covered; and where no CPU
 -- has work left, a kept machine shows it: in this manner. With richer jobs, while no job runs out of
@@ -93,10 +94,11 @@ CoversAll (Permuted peers) kept =
     (w z : World) (schedule : List ℕ) → IsFresh w → IsShown kept w → RunsSchedule w schedule z
     → IsCoveredPermuted peers kept z
     × (HaveEnded z.jobs → ButForPlaces peers (IsShown kept) z)
-CoversAll Richly kept =
+CoversAll (Richly peers) kept =
     (w z : World) (schedule : List ℕ) → IsFresh w → IsShown kept w → RunsSchedule w schedule z
     → NoneRanOut z.jobs
-    → IsCoveredAlikeRichly kept z × (HaveEnded z.jobs → IsShown kept z)
+    → IsCoveredPermutedRichly peers kept z
+    × (HaveEnded z.jobs → ButForPlaces peers (IsShown kept) z)
 
 -- the search came this far, where these are kept
 pub record CameTo (manner : Manner) (kept : List MachineState) (extent : Extent) (limit : ℕ) : Type 0
@@ -111,8 +113,14 @@ abbrev pub ShowsEnds : List MachineState → Type 0
 ShowsEnds kept = (w z : World) (schedule : List ℕ) → BeginsAt kept w → RunsSchedule w schedule z
     → HaveEnded z.jobs → IsShown kept z
 
--- the search came this far, and where nothing was left to be kept, the kept machines show each end
-pub record CameToEnds (kept : List MachineState) (extent : Extent) (limit : ℕ) : Type 0 where
-  pub ends : extent ≡ Whole → ShowsEnds kept
+-- each end in which no job is out of budget is
+abbrev pub ShowsEndsInBudget : List MachineState → Type 0
+ShowsEndsInBudget kept = (w z : World) (schedule : List ℕ) → BeginsAt kept w
+    → RunsSchedule w schedule z → NoneRanOut z.jobs → HaveEnded z.jobs → IsShown kept z
+
+-- the search came this far, and where nothing was left to be kept, the kept machines show these ends
+pub record CameToEnds (Ends : List MachineState → Type 0) (kept : List MachineState)
+    (extent : Extent) (limit : ℕ) : Type 0 where
+  pub ends : extent ≡ Whole → Ends kept
   pub met : extent ≡ Limited → limit < length kept
   pub short : extent ≡ Refused → length kept ≤ limit

@@ -370,11 +370,11 @@ impl Album {
     ghost use Rattle.bpf_machine.specs.Schedule.{World, RunsSchedule, unrolled};
     ghost use Rattle.bpf_machine.specs.Cover.{TurnsTo, TurnsAhead};
     ghost use Rattle.bpf_machine.specs.Patient.{IsRefilled};
-    ghost use Rattle.bpf_explore.specs.Search.{IsIdleAt, IsKept, Permuted};
+    ghost use Rattle.bpf_explore.specs.Search.{IsIdleAt};
     ghost use Rattle.bpf_explore.specs.Scouts.{IsTurnAhead};
     ghost use Rattle.bpf_alike.specs.Worlds.{AreLiveTables, table_at};
     ghost use Rattle.bpf_equal.specs.Groups.{ArePeers};
-    ghost use Rattle.bpf_explore.specs.Private.Peers.{FitPeers};
+    ghost use Rattle.bpf_explore.specs.Private.Peers.{FitPeers, IsKeptElsewhereAt};
     ghost use Rattle.bpf_explore.specs.Stores.{IsOfShape};
     ghost use Rattle.bpf_explore.specs.Album.{ShowsFirst, IsKeptAlikeAt, AreApart, HaveEndedAt, NoneRanOutAt, HaveBudgets, AreKeptUnder, FitsStock, HasMore, IsNumbered};
     ghost use Rattle.bpf_machine.specs.Hands.{OthersStay};
@@ -583,6 +583,29 @@ impl Album {
         Ok(ahead)
     }
 
+    /// As `look_ahead`, where the job that the CPU has in hand then, if it has one, gets its whole budget
+    /// back.
+    pub(crate) fn look_ahead_patiently(
+        &mut self,
+        room: &mut Room,
+        place: usize,
+        cpu: u8,
+    ) -> Result<u32, AllocError>
+        requires { place < length self.old.kept }
+        ensures kept { self.new.kept ≡ self.old.kept }
+        ensures turn { IfOk result (λ n. IsTurnAhead true self.old.kept self.new.stock place cpu n
+            room.new.numbers.items) }
+        ensures cpus { self.new.cpus ≡ self.old.cpus }
+        ensures more { HasMore self.old.stock self.new.stock }
+    {
+        self.restore(place)?;
+        let made = self.turn_ahead(cpu);
+        let ahead = turns_of(made)?;
+        self.refill(cpu);
+        self.enter(room, Some(Turned { place, cpu }))?;
+        Ok(ahead)
+    }
+
     /// Whether a kept machine is the one of these numbers, perhaps but for which of its equal jobs is how
     /// far, and for registers that are written before they are read.
     pub(crate) fn is_elsewhere(
@@ -599,7 +622,7 @@ impl Album {
         ensures tables { twins.new.tables ≡ twins.old.tables }
         ensures kept { IfOk result (λ is. is ≡ true → (m : MachineState)
             → IsNumbered self.now.stock m numbers.now
-            → IsKept (Permuted twins.old.peers.items) self.now.kept m) }
+            → IsKeptElsewhereAt twins.old.peers.items self.now.kept place m) }
     {
         let tuple = self.states.tuple(place);
         if tuple[0] != numbers[0] {

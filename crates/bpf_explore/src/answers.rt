@@ -8,6 +8,7 @@ ghost use Rattle.bpf_explore.specs.Album.{HaveEndedAt};
 ghost use Rattle.bpf_explore.specs.Outcomes.{Found, AreOutcomes, EndsBy};
 ghost use Rattle.bpf_explore.specs.Private.Answers.{AreSorted, IsFirst, AllEnd, KeepsAll, IsPlaceOf, IsAnsweredAt, Gathered};
 
+use crate::runs::Strictly;
 use crate::spread::Spread;
 use bpf_jobs::{Report, tell};
 use bpf_names::Names;
@@ -104,7 +105,7 @@ fn put_answer(answers: &mut Vec<Answer>, at: usize, answer: Answer) -> Result<()
 /// yet.
 fn tell_ended(
     alloc: Global,
-    spread: &mut Spread,
+    spread: &mut Spread<Strictly>,
     names: &Names,
     maps: bool,
     answers: &mut Vec<Answer>,
@@ -140,7 +141,7 @@ fn tell_ended(
 /// Puts what is printed of a kept machine among the answers, if it has no work.
 fn tell_at(
     alloc: Global,
-    spread: &mut Spread,
+    spread: &mut Spread<Strictly>,
     names: &Names,
     maps: bool,
     answers: &mut Vec<Answer>,
@@ -164,7 +165,7 @@ fn tell_at(
 /// The answers: what is printed of each kept machine without work.
 pub(crate) fn gather(
     alloc: Global,
-    spread: &mut Spread,
+    spread: &mut Spread<Strictly>,
     names: &Names,
     maps: bool,
 ) -> Result<Vec<Answer>, AllocError>

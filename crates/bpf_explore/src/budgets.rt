@@ -33,10 +33,11 @@ pub(crate) fn judge_budgets(
     requires first { 0 < length explorer.old.kept }
     requires turns { AreTurns explorer.old.kept turns.now }
     ensures same { explorer.new.kept ≡ explorer.old.kept }
+    ensures peers { explorer.new.peers ≡ explorer.old.peers }
     ensures suffice { IfOk result (λ b. b ≡ Budgets.Suffice → NoneRunsOut explorer.old.kept) }
     ensures out { IfOk result (λ b. b ≡ Budgets.RunOut → CanRunOut explorer.old.kept) }
 {
-    bpf_alike::laws::alike_budgets_suffice();
+    bpf_equal::laws::permuted_budgets_suffice();
     let depths = find_depths(alloc, explorer, turns)?;
     if is_sparing(explorer, turns, &depths.steps) {
         return Ok(Budgets::Suffice);

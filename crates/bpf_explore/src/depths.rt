@@ -2,7 +2,7 @@
 
 ghost use Rattle.std.specs.Prelude.{◌≡◌, ◌+◌, ◌<◌, ◌≤◌, ◌⊎◌, ℕ, true, length};
 ghost use Rattle.bpf_machine.specs.Budgets.{depth_at};
-ghost use Rattle.bpf_alike.specs.Budgets.{AreSparingAlike};
+ghost use Rattle.bpf_equal.specs.Patient.{AreSparingPermuted};
 ghost use Rattle.bpf_explore.specs.Album.{HaveBudgets};
 ghost use Rattle.bpf_explore.specs.Search.{IsIdleAt};
 ghost use Rattle.bpf_explore.specs.Private.Depths.{IsSparingAt, LeadsDeeperAt};
@@ -161,7 +161,7 @@ fn leads_deeper(
     requires place { place < length explorer.now.kept }
     requires cpu { cpu < turns.now.cpus }
     ensures { result ≡ true → IsIdleAt explorer.now.kept place cpu
-        ⊎ LeadsDeeperAt explorer.now.kept depths.now place cpu }
+        ⊎ LeadsDeeperAt turns.now.peers.items explorer.now.kept depths.now place cpu }
 {
     if !explorer.has_work(place, cpu) {
         return true;
@@ -182,7 +182,7 @@ fn is_sparing_at(
 ) -> bool
     requires turns { AreTurns explorer.now.kept turns.now }
     requires place { place < length explorer.now.kept }
-    ensures { result ≡ true → IsSparingAt explorer.now.kept depths.now least place }
+    ensures { result ≡ true → IsSparingAt turns.now.peers.items explorer.now.kept depths.now least place }
 {
     if depth_of(depths, place) >= least {
         return false;
@@ -198,7 +198,8 @@ fn is_sparing_at(
 /// Whether turns lead ever deeper, and no kept machine is as deep as a budget.
 pub(crate) fn is_sparing(explorer: &PatientExplorer, turns: &Turns, depths: &[u64]) -> bool
     requires { AreTurns explorer.now.kept turns.now }
-    ensures { result ≡ true → (least : ℕ) × AreSparingAlike explorer.now.kept depths.now least }
+    ensures { result ≡ true → (least : ℕ)
+        × AreSparingPermuted turns.now.peers.items explorer.now.kept depths.now least }
 {
     let least = explorer.least_budget();
     for place in 0..explorer.len() {

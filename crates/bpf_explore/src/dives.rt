@@ -12,8 +12,8 @@ ghost use Rattle.bpf_explore.specs.Private.Patience.{AllEndPatiently};
 
 use crate::answers::{Answer, place_of};
 use crate::diving::dives_after;
-use crate::patient::PatientExplorer;
 use crate::replays::some_ran_out;
+use crate::runs::{Freely, Strictly};
 use crate::spread::Spread;
 use bpf_jobs::{Report, tell};
 use bpf_machine::Machine;
@@ -67,7 +67,7 @@ fn add_answer(answers: &mut Vec<Answer>, answer: Answer) -> Result<(), AllocErro
 /// Puts what dives lead to among the answers.
 pub(crate) fn dive_further(
     alloc: Global,
-    spread: &mut Spread,
+    spread: &mut Spread<Strictly>,
     names: &Names,
     maps: bool,
     answers: &mut Vec<Answer>,
@@ -95,27 +95,27 @@ pub(crate) fn dive_further(
 /// Puts what dives lead to among the answers of a patient search, if no job is out of budget there.
 pub(crate) fn dive_patiently(
     alloc: Global,
-    explorer: &mut PatientExplorer,
+    spread: &mut Spread<Freely>,
     names: &Names,
     maps: bool,
     answers: &mut Vec<Answer>,
 ) -> Result<(), AllocError>
-    requires first { (w : World) × IsFirst explorer.old.kept w }
+    requires first { (w : World) × IsFirst spread.old.kept w }
     requires sorted { AreSorted answers.old.items }
-    requires ends { (w : World) → IsFirst explorer.old.kept w
+    requires ends { (w : World) → IsFirst spread.old.kept w
         → AllEndPatiently w (names_of names.now) maps answers.old.items }
-    ensures same { explorer.new.kept ≡ explorer.old.kept }
+    ensures same { spread.new.kept ≡ spread.old.kept }
     ensures sorted { AreSorted answers.new.items }
     ensures keeps { KeepsAll answers.old.items answers.new.items }
-    ensures ends { (w : World) → IsFirst explorer.old.kept w
+    ensures ends { (w : World) → IsFirst spread.old.kept w
         → AllEndPatiently w (names_of names.now) maps answers.new.items }
 {
-    for number in 0..dives_after(explorer.len()) {
-        let by = explorer.dive(number)?;
-        if some_ran_out(explorer.machine()) {
+    for number in 0..dives_after(spread.len()) {
+        let by = spread.dive(number)?;
+        if some_ran_out(spread.machine()) {
             continue;
         }
-        let Some(report) = tell_end(alloc, explorer.machine(), names, maps)? else {
+        let Some(report) = tell_end(alloc, spread.machine(), names, maps)? else {
             continue;
         };
         add_answer(answers, Answer::new(report.text, report.stopped, by))?;

@@ -1,7 +1,7 @@
 //! From which kept machines of a patient search an end can be reached.
 
 ghost use Rattle.std.specs.Prelude.{◌≡◌, ◌<◌, ◌≤◌, true, false, Some, IfOk, length, slice_get};
-ghost use Rattle.bpf_alike.specs.Ends.{IsStuckAlike, AreStuckAlike};
+ghost use Rattle.bpf_equal.specs.Patient.{IsStuckPermuted, AreStuckPermuted};
 ghost use Rattle.bpf_explore.specs.Album.{NoneRanOutAt};
 ghost use Rattle.bpf_explore.specs.Private.Edges.{AreTurns};
 ghost use Rattle.bpf_explore.specs.Private.Ends.{AllGoOn, LeadToEnds, LeadsToEnd, AreMarked, unmarked};
@@ -17,10 +17,10 @@ fn leads_to_end(explorer: &PatientExplorer, turns: &Turns, marks: &[bool], place
     requires turns { AreTurns explorer.now.kept turns.now }
     requires marks { length marks.now ≡ length explorer.now.kept }
     requires none { NoneRanOutAt explorer.now.kept place }
-    ensures leads { result ≡ true → LeadToEnds explorer.now.kept marks.now
-        → LeadsToEnd explorer.now.kept place }
+    ensures leads { result ≡ true → LeadToEnds turns.now.peers.items explorer.now.kept marks.now
+        → LeadsToEnd turns.now.peers.items explorer.now.kept place }
     ensures stuck { result ≡ false → slice_get marks.now place ≡ Some false
-        → IsStuckAlike explorer.now.kept marks.now place }
+        → IsStuckPermuted turns.now.peers.items explorer.now.kept marks.now place }
 {
     if explorer.has_ended(place) {
         return true;
@@ -40,13 +40,13 @@ fn mark_at(explorer: &PatientExplorer, turns: &Turns, marks: &mut Vec<bool>, pla
     requires turns { AreTurns explorer.now.kept turns.now }
     requires marks { length marks.old.items ≡ length explorer.now.kept }
     requires none { NoneRanOutAt explorer.now.kept place }
-    requires lead { LeadToEnds explorer.now.kept marks.old.items }
+    requires lead { LeadToEnds turns.now.peers.items explorer.now.kept marks.old.items }
     ensures marks { length marks.new.items ≡ length explorer.now.kept }
-    ensures lead { LeadToEnds explorer.now.kept marks.new.items }
+    ensures lead { LeadToEnds turns.now.peers.items explorer.now.kept marks.new.items }
     ensures fewer { result ≡ true → unmarked marks.new.items < unmarked marks.old.items }
     ensures same { result ≡ false → marks.new.items ≡ marks.old.items }
     ensures stuck { result ≡ false → slice_get marks.old.items place ≡ Some false
-        → IsStuckAlike explorer.now.kept marks.old.items place }
+        → IsStuckPermuted turns.now.peers.items explorer.now.kept marks.old.items place }
 {
     if mark_of(marks, place) {
         return false;
@@ -64,12 +64,12 @@ fn mark_more(explorer: &PatientExplorer, turns: &Turns, marks: &mut Vec<bool>) -
     requires turns { AreTurns explorer.now.kept turns.now }
     requires marks { length marks.old.items ≡ length explorer.now.kept }
     requires none { AllGoOn explorer.now.kept }
-    requires lead { LeadToEnds explorer.now.kept marks.old.items }
+    requires lead { LeadToEnds turns.now.peers.items explorer.now.kept marks.old.items }
     ensures marks { length marks.new.items ≡ length explorer.now.kept }
-    ensures lead { LeadToEnds explorer.now.kept marks.new.items }
+    ensures lead { LeadToEnds turns.now.peers.items explorer.now.kept marks.new.items }
     ensures fewer { result ≡ true → unmarked marks.new.items < unmarked marks.old.items }
     ensures no_more { unmarked marks.new.items ≤ unmarked marks.old.items }
-    ensures stuck { result ≡ false → AreStuckAlike explorer.now.kept marks.new.items }
+    ensures stuck { result ≡ false → AreStuckPermuted turns.now.peers.items explorer.now.kept marks.new.items }
 {
     let mut more = false;
     let count = explorer.len();
@@ -88,7 +88,7 @@ pub(crate) fn mark_ends(
 ) -> Result<Vec<bool>, AllocError>
     requires turns { AreTurns explorer.now.kept turns.now }
     requires none { AllGoOn explorer.now.kept }
-    ensures { IfOk result (λ marks. AreMarked explorer.now.kept marks.items) }
+    ensures { IfOk result (λ marks. AreMarked turns.now.peers.items explorer.now.kept marks.items) }
 {
     let mut marks = vec![in alloc; false; explorer.len()]?;
     let mut more = true;

@@ -2,8 +2,9 @@
 
 ghost use Rattle.std.specs.Prelude.{◌≡◌, ◌++◌, ◌<◌, List, IfOk, OnOk, length, replicate, reverse};
 ghost use Rattle.bpf_machine.specs.Machine.{MachineState};
-ghost use Rattle.bpf_machine.specs.Schedule.{RunsSchedule, unrolled};
-ghost use Rattle.bpf_explore.specs.Album.{LeadsFrom};
+ghost use Rattle.bpf_machine.specs.Schedule.{unrolled};
+ghost use Rattle.bpf_explore.specs.Album.{LeadsThrough};
+ghost use Rattle.bpf_explore.specs.Private.Spread.{AreRuns};
 ghost use Rattle.bpf_explore.specs.Private.Trail.{AreOrigins};
 
 use crate::album::{Album, Room, Turned, number_of};
@@ -11,6 +12,7 @@ use crate::crew::Crew;
 use crate::diving::{Course, dive};
 use crate::frontier::Frontier;
 use crate::room::bytes_of;
+use crate::runs::{Runs, Strictly};
 use crate::scouts::Scouts;
 use crate::spread::Spread;
 use bpf_alike::Merged;
@@ -57,16 +59,17 @@ pub(crate) fn push_turns(by: &mut Vec<(u8, u64)>, cpu: u8, turns: u64) -> Result
 
 /// The turns by which a machine came about from the first: CPUs, each with how many turns it makes before
 /// the next.
-pub(crate) fn way_back(
+pub(crate) fn way_back<R: Runs>(
     alloc: Global,
     origins: &[Origin],
     place: usize,
 ) -> Result<Vec<(u8, u64)>, AllocError>
-    requires are { (kept : List MachineState) × AreOrigins RunsSchedule kept origins.now }
+    requires runs { AreRuns R.runs }
+    requires are { (kept : List MachineState) × AreOrigins R.runs kept origins.now }
     requires place { place < length origins.now }
     ensures { IfOk result (λ by. (kept : List MachineState)
-        → AreOrigins RunsSchedule kept origins.now
-        → LeadsFrom kept 0 (unrolled by.items) place) }
+        → AreOrigins R.runs kept origins.now
+        → LeadsThrough R.runs kept 0 (unrolled by.items) place) }
 {
     let mut by = Vec::new(alloc);
     let mut state = place;
@@ -178,7 +181,7 @@ impl Explorer {
         requires { place < length self.now.kept }
         ensures { IfOk result (λ by. LeadsFrom self.now.kept 0 (unrolled by.items) place) }
     {
-        way_back(self.alloc, &self.origins, place)
+        way_back::<Strictly>(self.alloc, &self.origins, place)
     }
 
     /// Makes turns from the first machine, as the dive of this number does. The schedule that they are.
@@ -228,7 +231,7 @@ impl Explorer {
     }
 
     /// What is kept, after the search.
-    pub(crate) fn into_spread(self) -> Spread
+    pub(crate) fn into_spread(self) -> Spread<Strictly>
         ensures { result ≡ self }
     {
         let Explorer {

@@ -5,13 +5,14 @@ ghost use Rattle.bpf_names.specs.Names.{names_of};
 ghost use Rattle.bpf_cpu.specs.Setup.{IsRunnable};
 ghost use Rattle.bpf_machine.specs.Schedule.{World};
 ghost use Rattle.bpf_jobs.specs.Printed.{first_of};
-ghost use Rattle.bpf_explore.specs.Album.{BeginsAt};
+ghost use Rattle.bpf_equal.specs.Patient.{AreAllExchanged};
+ghost use Rattle.bpf_explore.specs.Album.{BeginsAt, HaveWholeBudgets};
 ghost use Rattle.bpf_explore.specs.Outcomes.{AreOutcomes, IsExplored};
 ghost use Rattle.bpf_explore.specs.Patient.{ArePatient, IsSearchedPatiently};
-ghost use Rattle.bpf_explore.specs.Search.{CameTo, CameToEnds, Permuted, Richly, rows_of};
+ghost use Rattle.bpf_explore.specs.Search.{CameTo, CameToEnds, Permuted, Richly, ShowsEnds, ShowsEndsInBudget, rows_of};
 ghost use Rattle.bpf_explore.specs.Private.Answers.{IsAnsweredAt, IsFirst, StartsFresh};
 ghost use Rattle.bpf_explore.specs.Private.Edges.{AreTurns};
-ghost use Rattle.bpf_explore.specs.Private.Hung.{AllHang, AllLeadOrBeyond};
+ghost use Rattle.bpf_explore.specs.Private.Hung.{AllHang, AllLeadOrBeyond, StaysFirst};
 ghost use Rattle.bpf_explore.specs.Private.Replays.{CanRunOut, NoneRunsOut};
 
 use crate::answers::{Answer, gather};
@@ -21,10 +22,11 @@ use crate::dives::{dive_further, dive_patiently};
 use crate::frontier::{Extent, explore};
 use crate::hung::{Hung, gather_hung};
 use crate::observer::Observer;
-use crate::opening::{Scope, patient_search_of, permuted_search_of};
+use crate::opening::{Scope, permuted_patient_search_of, permuted_search_of};
 use crate::patience::{both, gather_patiently};
 use crate::patient::PatientExplorer;
 use crate::permuted::PermutedExplorer;
+use crate::runs::{Freely, Strictly};
 use crate::spread::Spread;
 use crate::turns::Turns;
 use bpf_cpu::Setup;
@@ -48,7 +50,7 @@ pub struct Explored {
 /// limit, of where dives lead. A dive only adds answers, so one that is refused memory is passed over.
 fn find_answers(
     alloc: Global,
-    explorer: &mut Spread,
+    explorer: &mut Spread<Strictly>,
     names: &Names,
     maps: bool,
     extent: Extent,
@@ -71,14 +73,14 @@ fn find_answers(
 /// What a search found that came this far.
 fn conclude(
     alloc: Global,
-    explorer: &mut Spread,
+    explorer: &mut Spread<Strictly>,
     names: &Names,
     maps: bool,
     extent: Extent,
 ) -> Result<Explored, AllocError>
     requires { (w : World) × IsFirst explorer.old.kept w }
     ensures { IfOk result (λ e. (w : World) (limit : ℕ) → BeginsAt explorer.old.kept w
-        → CameToEnds explorer.old.kept extent limit
+        → CameToEnds ShowsEnds explorer.old.kept extent limit
         → IsExplored w (names_of names.now) maps e.answers.items e.all e.refused limit
         e.states) }
 {
@@ -97,11 +99,15 @@ fn conclude(
 
 /// What a search found that came this far, and how far it is then: where it left nothing out, ends are
 /// kept in all places that equal jobs may have.
-fn close_ends(explorer: PermutedExplorer, extent: Extent, limit: usize) -> (Spread, Extent)
+fn close_ends(
+    explorer: PermutedExplorer,
+    extent: Extent,
+    limit: usize,
+) -> (Spread<Strictly>, Extent)
     requires { StartsFresh explorer.found.kept }
     ensures begins { (w : World) → BeginsAt explorer.found.kept w → BeginsAt result.0.kept w }
     ensures ends { CameTo (Permuted explorer.peers) explorer.found.kept extent limit
-        → CameToEnds result.0.kept result.1 limit }
+        → CameToEnds ShowsEnds result.0.kept result.1 limit }
 {
     bpf_equal::laws::kept_ends_are_shown();
     let (mut spread, peers) = explorer.into_spread();
@@ -162,10 +168,13 @@ fn find_hung(
 ) -> Result<(Vec<Hung>, bool), AllocError>
     requires fresh { StartsFresh explorer.old.kept }
     requires turns { whole ≡ true → AreTurns explorer.old.kept turns.now }
+    requires stays { StaysFirst turns.now.peers.items explorer.old.kept }
     ensures same { explorer.new.kept ≡ explorer.old.kept }
+    ensures peers { explorer.new.peers ≡ explorer.old.peers }
     ensures hung { IfOk result (λ r. AllHang explorer.old.kept r.0.items) }
     ensures ends { IfOk result (λ r. whole ≡ true → r.1 ≡ true
-        → AllLeadOrBeyond explorer.old.kept r.0.items) }
+        → AllLeadOrBeyond turns.now.peers.items explorer.old.kept r.0.items) }
+    ensures exchanged { IfOk result (λ r. AreAllExchanged turns.now.peers.items r.0.items) }
     ensures out { IfOk result (λ r. r.1 ≡ false → CanRunOut explorer.old.kept) }
 {
     if whole {
@@ -188,6 +197,7 @@ fn find_budgets(
     requires turns { whole ≡ true → AreTurns explorer.old.kept turns.now }
     requires out { fit ≡ false → CanRunOut explorer.old.kept }
     ensures same { explorer.new.kept ≡ explorer.old.kept }
+    ensures peers { explorer.new.peers ≡ explorer.old.peers }
     ensures unfit { IfOk result (λ b. fit ≡ false → b ≡ Budgets.RunOut) }
     ensures suffice { IfOk result (λ b. b ≡ Budgets.Suffice → NoneRunsOut explorer.old.kept) }
     ensures out { IfOk result (λ b. b ≡ Budgets.RunOut → CanRunOut explorer.old.kept) }
@@ -202,89 +212,126 @@ fn find_budgets(
     }
 }
 
-/// What is hung, whether all schedules that are printed fit the budgets, and whether some schedule
-/// uses a budget up.
+/// What is hung, whether all schedules to it fit the budgets, and whether some schedule uses a budget up.
 fn judge(
     alloc: Global,
     explorer: &mut PatientExplorer,
     turns: &Turns,
     whole: bool,
-    told: bool,
 ) -> Result<(Vec<Hung>, bool, Budgets), AllocError>
     requires fresh { StartsFresh explorer.old.kept }
     requires turns { whole ≡ true → AreTurns explorer.old.kept turns.now }
-    requires out { told ≡ false → CanRunOut explorer.old.kept }
+    requires stays { StaysFirst turns.now.peers.items explorer.old.kept }
     ensures same { explorer.new.kept ≡ explorer.old.kept }
+    ensures peers { explorer.new.peers ≡ explorer.old.peers }
     ensures hung { IfOk result (λ r. AllHang explorer.old.kept r.0.items) }
-    ensures told { IfOk result (λ r. r.1 ≡ true → told ≡ true) }
     ensures ends { IfOk result (λ r. whole ≡ true → r.1 ≡ true
-        → AllLeadOrBeyond explorer.old.kept r.0.items) }
+        → AllLeadOrBeyond turns.now.peers.items explorer.old.kept r.0.items) }
+    ensures exchanged { IfOk result (λ r. AreAllExchanged turns.now.peers.items r.0.items) }
     ensures unfit { IfOk result (λ r. r.1 ≡ false → r.2 ≡ Budgets.RunOut) }
     ensures suffice { IfOk result (λ r. r.2 ≡ Budgets.Suffice → NoneRunsOut explorer.old.kept) }
     ensures out { IfOk result (λ r. r.2 ≡ Budgets.RunOut → CanRunOut explorer.old.kept) }
 {
     let (hung, fit) = find_hung(alloc, explorer, turns, whole)?;
-    let all_fit = both(told, fit);
-    let budgets = find_budgets(alloc, explorer, turns, whole, all_fit)?;
-    Ok((hung, all_fit, budgets))
+    let budgets = find_budgets(alloc, explorer, turns, whole, fit)?;
+    Ok((hung, fit, budgets))
 }
 
 /// The answers of a patient search, with where dives lead, where it met its limit. Whether what is
 /// printed of each kept machine without work is one.
 fn find_patiently(
     alloc: Global,
-    explorer: &mut PatientExplorer,
+    spread: &mut Spread<Freely>,
     names: &Names,
     maps: bool,
     extent: Extent,
 ) -> Result<(Vec<Answer>, bool), AllocError>
-    requires { StartsFresh explorer.old.kept }
-    ensures same { explorer.new.kept ≡ explorer.old.kept }
-    ensures outcomes { IfOk result (λ r. (w : World) → IsFirst explorer.old.kept w
+    requires { StartsFresh spread.old.kept }
+    ensures same { spread.new.kept ≡ spread.old.kept }
+    ensures outcomes { IfOk result (λ r. (w : World) → IsFirst spread.old.kept w
         → ArePatient w (names_of names.now) maps r.0.items) }
     ensures answered { IfOk result (λ r. r.1 ≡ true → (i : ℕ)
-        → IsAnsweredAt explorer.old.kept (names_of names.now) maps r.0.items i) }
-    ensures out { IfOk result (λ r. r.1 ≡ false → CanRunOut explorer.old.kept) }
+        → IsAnsweredAt spread.old.kept (names_of names.now) maps r.0.items i) }
+    ensures out { IfOk result (λ r. r.1 ≡ false → CanRunOut spread.old.kept) }
 {
-    let (mut answers, told) = gather_patiently(alloc, explorer, names, maps)?;
+    let (mut answers, told) = gather_patiently(alloc, spread, names, maps)?;
     if !extent.is_limited() {
         return Ok((answers, told));
     }
-    let _ = dive_patiently(alloc, explorer, names, maps, &mut answers);
+    let _ = dive_patiently(alloc, spread, names, maps, &mut answers);
     Ok((answers, told))
+}
+
+/// What a patient search found that came this far, and how far it is then: where it left nothing out, ends
+/// are kept in all places that equal jobs may have.
+fn close_patiently(
+    explorer: PatientExplorer,
+    extent: Extent,
+    limit: usize,
+) -> (Spread<Freely>, Extent)
+    requires { StartsFresh explorer.kept }
+    ensures begins { (w : World) → BeginsAt explorer.kept w → BeginsAt result.0.kept w }
+    ensures before { (w : World) → IsFirst result.0.kept w → IsFirst explorer.kept w }
+    ensures whole { result.1 ≡ Extent.Whole → extent ≡ Extent.Whole }
+    ensures budgets { HaveWholeBudgets explorer.kept → HaveWholeBudgets result.0.kept }
+    ensures ends { CameTo (Richly explorer.peers) explorer.kept extent limit
+        → CameToEnds ShowsEndsInBudget result.0.kept result.1 limit }
+{
+    bpf_equal::laws::kept_ends_are_shown();
+    let (mut spread, peers) = explorer.into_spread();
+    if !extent.is_whole() {
+        return (spread, extent);
+    }
+    let closed = spread.close(&peers, limit);
+    (spread, closed)
+}
+
+/// Whether some schedule uses a budget up, where it is known besides whether the schedules of all answers
+/// fit the budgets.
+fn settle_budgets(told: bool, budgets: Budgets) -> Budgets
+    ensures told { told ≡ true → result ≡ budgets }
+    ensures out { told ≡ false → result ≡ Budgets.RunOut }
+{
+    if told { budgets } else { Budgets::RunOut }
 }
 
 /// What a patient search found that came this far.
 fn conclude_patiently(
     alloc: Global,
-    explorer: &mut PatientExplorer,
+    mut explorer: PatientExplorer,
     names: &Names,
     maps: bool,
-    extent: Extent,
+    reach: (Extent, usize),
 ) -> Result<ExploredPatiently, AllocError>
-    requires fresh { StartsFresh explorer.old.kept }
-    requires made { extent ≡ Extent.Whole
-        → explorer.old.made ≡ rows_of explorer.old.cpus (length explorer.old.kept) }
-    ensures { IfOk result (λ e. (w : World) (limit : ℕ) → BeginsAt explorer.old.kept w
-        → CameTo Richly explorer.old.kept extent limit
+    requires fresh { StartsFresh explorer.kept }
+    requires made { reach.0 ≡ Extent.Whole
+        → explorer.made ≡ rows_of explorer.cpus (length explorer.kept) }
+    ensures { IfOk result (λ e. (w : World) → BeginsAt explorer.kept w
+        → CameTo (Richly explorer.peers) explorer.kept reach.0 reach.1
         → IsSearchedPatiently w (names_of names.now) maps e.answers.items e.all e.refused
-        limit e.states e.hung.items e.budgets) }
+        reach.1 e.states e.hung.items e.budgets) }
 {
     crate::laws::patient_tell_all();
-    bpf_alike::laws::alike_can_end();
-    explorer.leads();
-    explorer.apart();
+    bpf_equal::laws::permuted_can_end();
+    bpf_equal::laws::covered_lie_beyond();
+    bpf_equal::laws::beyond_is_exchanged();
+    let (extent, limit) = reach;
     explorer.refilled();
-    let whole = extent.is_whole();
-    let turns = explorer.take_turns();
-    let (answers, told) = find_patiently(alloc, explorer, names, maps, extent)?;
-    let (hung, fit, budgets) = judge(alloc, explorer, &turns, whole, told)?;
-    let all = both(whole, fit);
-    let states = explorer.len();
+    explorer.stays();
+    let turns = explorer.take_turns()?;
+    let (hung, fit, judged) = judge(alloc, &mut explorer, &turns, extent.is_whole())?;
+    let (mut spread, closed) = close_patiently(explorer, extent, limit);
+    spread.leads();
+    spread.apart();
+    let (answers, told) = find_patiently(alloc, &mut spread, names, maps, closed)?;
+    let budgets = settle_budgets(told, judged);
+    let fits = both(told, fit);
+    let all = both(closed.is_whole(), fits);
+    let states = spread.len();
     Ok(ExploredPatiently {
         answers,
         all,
-        refused: extent.is_refused(),
+        refused: closed.is_refused(),
         states,
         hung,
         budgets,
@@ -292,7 +339,8 @@ fn conclude_patiently(
 }
 
 /// Searches for outcomes in which no job is out of budget: machines that differ only in how many
-/// steps are left of budgets count as one. The outcomes aren't all where more are kept than the
+/// steps are left of budgets count as one, and so do those that differ only in which of their equal jobs
+/// is how far, where states are merged. The outcomes aren't all where more are kept than the
 /// limit, where memory is refused to the search, or where a schedule that was found uses a budget up,
 /// which is reported then. Besides, states from which no end can be reached, however many steps jobs
 /// are given, and whether some schedule uses a budget up. Out of memory before or after the search is
@@ -311,7 +359,7 @@ pub fn search_patiently<C: Crew, O: Observer>(
         (names_of names.now) maps e.answers.items e.all e.refused scope.entry.limit e.states
         e.hung.items e.budgets) }
 {
-    let mut explorer = patient_search_of(alloc, setup, scope.merged)?;
+    let mut explorer = permuted_patient_search_of(alloc, setup, scope.merged)?;
     let extent = explore(&mut explorer, scope.crew, scope.limit, observer);
-    conclude_patiently(alloc, &mut explorer, names, maps, extent)
+    conclude_patiently(alloc, explorer, names, maps, (extent, scope.limit))
 }

@@ -170,7 +170,7 @@ pub fn explore<F: Frontier, C: Crew, O: Observer>(
     ensures same { F.manner frontier.new ≡ F.manner frontier.old }
 {
     bpf_alike::laws::alike_sets_cover();
-    bpf_alike::laws::alike_patient_sets_cover();
+    bpf_equal::laws::permuted_patient_sets_cover();
     bpf_equal::laws::permuted_sets_cover();
     let mut next = 0;
     while next < frontier.count() {

@@ -1,19 +1,20 @@
 //! States of a patient search from which no end can be reached.
 
-ghost use Rattle.std.specs.Prelude.{◌≡◌, ◌<◌, ◌⊎◌, ◌+◌, ℕ, true, false, Some, IfOk, IfSome, IfNone, OnOk, length, slice_get};
-ghost use Rattle.bpf_alike.specs.Ends.{AreStuckAlike};
+ghost use Rattle.std.specs.Prelude.{◌≡◌, ◌<◌, ◌⊎◌, ◌+◌, ℕ, List, true, false, Some, IfOk, IfSome, IfNone, OnOk, length, slice_get};
+ghost use Rattle.bpf_equal.specs.declared.peers.Peer.{Peer as PeerOf};
+ghost use Rattle.bpf_equal.specs.Patient.{AreAllExchanged, AreStuckPermuted};
 ghost use Rattle.bpf_explore.specs.Album.{NoneRanOutAt};
 ghost use Rattle.bpf_explore.specs.Private.Answers.{StartsFresh};
 ghost use Rattle.bpf_explore.specs.Private.Edges.{AreTurns};
 ghost use Rattle.bpf_explore.specs.Private.Ends.{AllGoOn, AreMarked};
-ghost use Rattle.bpf_explore.specs.Private.Hung.{Hangs, AllHang, ComesTo, LeadsOn, AllBeyondBelow, AllLeadOrBeyond};
+ghost use Rattle.bpf_explore.specs.Private.Hung.{Hangs, AllHang, ComesTo, LeadsOn, AllBeyondBelow, AllLeadOrBeyond, StaysFirst};
 ghost use Rattle.bpf_explore.specs.Private.Replays.{CanRunOut};
 
 use crate::ends::mark_ends;
+use crate::exchanged::exchange_hung;
 use crate::marks::mark_of;
 use crate::patience::both;
 use crate::patient::PatientExplorer;
-use crate::replays::replay;
 use crate::turns::Turns;
 use std::alloc::{AllocError, Global};
 use std::marker::Model;
@@ -55,11 +56,12 @@ fn show_run_out(explorer: &mut PatientExplorer, place: usize) -> Result<(), Allo
     requires fresh { StartsFresh explorer.old.kept }
     requires out { NoneRanOutAt explorer.old.kept place → ⊥ }
     ensures same { explorer.new.kept ≡ explorer.old.kept }
+    ensures peers { explorer.new.peers ≡ explorer.old.peers }
     ensures out { OnOk result (CanRunOut explorer.old.kept) }
 {
     bpf_machine::laws::free_runs_agree();
     let by = explorer.way(place)?;
-    let _ = replay(explorer, &by)?;
+    let _ = explorer.replay(&by)?;
     Ok(())
 }
 
@@ -68,6 +70,7 @@ fn show_run_out(explorer: &mut PatientExplorer, place: usize) -> Result<(), Allo
 fn all_go_on(explorer: &mut PatientExplorer) -> Result<bool, AllocError>
     requires { StartsFresh explorer.old.kept }
     ensures same { explorer.new.kept ≡ explorer.old.kept }
+    ensures peers { explorer.new.peers ≡ explorer.old.peers }
     ensures on { IfOk result (λ on. on ≡ true → AllGoOn explorer.old.kept) }
     ensures out { IfOk result (λ on. on ≡ false → CanRunOut explorer.old.kept) }
 {
@@ -106,18 +109,20 @@ fn hung_at(
     place: usize,
 ) -> Result<Option<Hung>, AllocError>
     requires place { place < length explorer.old.kept }
-    requires stuck { AreStuckAlike explorer.old.kept marks.now }
+    requires stuck { (peers : List PeerOf)
+        × AreStuckPermuted peers explorer.old.kept marks.now }
     requires unmarked { slice_get marks.now place ≡ Some false }
     ensures same { explorer.new.kept ≡ explorer.old.kept }
+    ensures peers { explorer.new.peers ≡ explorer.old.peers }
     ensures hung { IfOk result (λ found. IfSome found (Hangs explorer.old.kept)) }
     ensures there { IfOk result (λ found. IfSome found (λ by. ComesTo explorer.old.kept by place)) }
     ensures out { IfOk result (λ found. IfNone found (CanRunOut explorer.old.kept)) }
 {
-    bpf_alike::laws::alike_stuck_are_hung();
+    bpf_equal::laws::permuted_stuck_are_hung();
     bpf_machine::laws::free_runs_agree();
     let _ = marks.len();
     let by = explorer.way(place)?;
-    if replay(explorer, &by)? {
+    if explorer.replay(&by)? {
         return Ok(None);
     }
     Ok(Some(Hung { by }))
@@ -131,9 +136,10 @@ fn add_hung(
     place: usize,
     hung: &mut Vec<Hung>,
 ) -> Result<bool, AllocError>
-    requires marked { AreMarked explorer.old.kept marks.now }
+    requires marked { (peers : List PeerOf) × AreMarked peers explorer.old.kept marks.now }
     requires place { place < length marks.now }
     ensures same { explorer.new.kept ≡ explorer.old.kept }
+    ensures peers { explorer.new.peers ≡ explorer.old.peers }
     ensures hung { OnOk result (AllHang explorer.old.kept hung.old.items
         → AllHang explorer.old.kept hung.new.items) }
     ensures listed { IfOk result (λ fits. fits ≡ true
@@ -158,8 +164,9 @@ fn list_hung(
     explorer: &mut PatientExplorer,
     marks: &[bool],
 ) -> Result<(Vec<Hung>, bool), AllocError>
-    requires { AreMarked explorer.old.kept marks.now }
+    requires { (peers : List PeerOf) × AreMarked peers explorer.old.kept marks.now }
     ensures same { explorer.new.kept ≡ explorer.old.kept }
+    ensures peers { explorer.new.peers ≡ explorer.old.peers }
     ensures hung { IfOk result (λ r. AllHang explorer.old.kept r.0.items) }
     ensures listed { IfOk result (λ r. r.1 ≡ true
         → AllBeyondBelow explorer.old.kept marks.now r.0.items (length marks.now)) }
@@ -174,9 +181,9 @@ fn list_hung(
     Ok((hung, fit))
 }
 
-/// Those that are first on their ways, where no kept machine has a job that is out of budget. Where all
-/// schedules fit, each
-/// kept machine leads to an end, or turns lead to it from one that is printed.
+/// Those that are first on their ways, and those with equal jobs exchanged, where no kept machine has a job
+/// that is out of budget. Where all schedules fit, each kept machine leads to an end, or turns lead to it
+/// from one that is printed.
 pub(crate) fn gather_hung(
     alloc: Global,
     explorer: &mut PatientExplorer,
@@ -184,15 +191,20 @@ pub(crate) fn gather_hung(
 ) -> Result<(Vec<Hung>, bool), AllocError>
     requires fresh { StartsFresh explorer.old.kept }
     requires turns { AreTurns explorer.old.kept turns.now }
+    requires stays { StaysFirst turns.now.peers.items explorer.old.kept }
     ensures same { explorer.new.kept ≡ explorer.old.kept }
+    ensures peers { explorer.new.peers ≡ explorer.old.peers }
     ensures hung { IfOk result (λ r. AllHang explorer.old.kept r.0.items) }
-    ensures ends { IfOk result (λ r. r.1 ≡ true → AllLeadOrBeyond explorer.old.kept r.0.items) }
+    ensures ends { IfOk result (λ r. r.1 ≡ true
+        → AllLeadOrBeyond turns.now.peers.items explorer.old.kept r.0.items) }
+    ensures exchanged { IfOk result (λ r. AreAllExchanged turns.now.peers.items r.0.items) }
     ensures out { IfOk result (λ r. r.1 ≡ false → CanRunOut explorer.old.kept) }
 {
     if !all_go_on(explorer)? {
         return Ok((Vec::new(alloc), false));
     }
     let marks = mark_ends(alloc, explorer, turns)?;
-    let (hung, fit) = list_hung(alloc, explorer, &marks)?;
+    let (mut hung, fit) = list_hung(alloc, explorer, &marks)?;
+    exchange_hung(alloc, &turns.peers, &mut hung)?;
     Ok((hung, fit))
 }

@@ -9,6 +9,7 @@ mod depths;
 mod dives;
 mod diving;
 mod ends;
+mod exchanged;
 mod exchanges;
 mod explorer;
 mod exploring;
@@ -27,6 +28,7 @@ mod places;
 mod replays;
 mod room;
 mod rounds;
+mod runs;
 mod scouts;
 mod slots;
 mod spread;
@@ -45,7 +47,9 @@ pub use frontier::{Extent, Frontier, explore};
 pub use hung::Hung;
 pub use listing::{list_explored, list_patient, push_last, whether_all};
 pub use observer::{Observer, Progress, Silent, TOLD_EVERY};
-pub use opening::{Scope, first_machine, patient_search_of, permuted_search_of, search_of};
+pub use opening::{
+    Scope, first_machine, permuted_patient_search_of, permuted_search_of, search_of,
+};
 pub use parts::Parts;
 pub use patient::PatientExplorer;
 pub use permuted::PermutedExplorer;

@@ -66,9 +66,25 @@ pub fn permuted_search_of(
     Ok(permuted)
 }
 
-/// A patient search that begins with the machine of jobs, and has made no turn. Out of memory is the
-/// only refusal.
-pub fn patient_search_of(
+/// A patient search that begins with the machine of jobs, and has made no turn. No jobs count as equal.
+/// Out of memory is the only refusal.
+fn patient_search_of(
+    alloc: Global,
+    setup: Setup,
+    merged: Merged,
+) -> Result<PatientExplorer, AllocError>
+    requires { IsRunnable setup }
+    ensures begins { IfOk result (λ e. BeginsAt e.kept (first_of setup)) }
+    ensures none { IfOk result (λ e. e.made ≡ []) }
+    ensures apart { IfOk result (λ e. e.peers ≡ []) }
+{
+    let (shape, machine) = first_machine(alloc, setup)?;
+    PatientExplorer::new(alloc, shape, machine, merged)
+}
+
+/// A patient search that begins so, in which equal jobs count as one where states are merged. Out of memory
+/// is the only refusal.
+pub fn permuted_patient_search_of(
     alloc: Global,
     setup: Setup,
     merged: Merged,
@@ -77,6 +93,7 @@ pub fn patient_search_of(
     ensures begins { IfOk result (λ e. BeginsAt e.kept (first_of setup)) }
     ensures none { IfOk result (λ e. e.made ≡ []) }
 {
-    let (shape, machine) = first_machine(alloc, setup)?;
-    PatientExplorer::new(alloc, shape, machine, merged)
+    let mut explorer = patient_search_of(alloc, setup, merged)?;
+    explorer.find_equal(merged)?;
+    Ok(explorer)
 }

@@ -10,8 +10,8 @@ ghost use Rattle.bpf_explore.specs.Private.Patience.{AllEndPatiently, LeadsInBud
 ghost use Rattle.bpf_explore.specs.Private.Replays.{CanRunOut};
 
 use crate::answers::{Answer, place_of};
-use crate::patient::PatientExplorer;
-use crate::replays::replay;
+use crate::runs::Freely;
+use crate::spread::Spread;
 use bpf_jobs::{Report, tell};
 use bpf_names::Names;
 use std::alloc::{AllocError, Global};
@@ -19,20 +19,20 @@ use std::alloc::{AllocError, Global};
 /// The schedule that leads to a kept machine without work, with the budgets that jobs have; `None`
 /// where it uses a budget up.
 fn way_in_budget(
-    explorer: &mut PatientExplorer,
+    spread: &mut Spread<Freely>,
     place: usize,
 ) -> Result<Option<Vec<(u8, u64)>>, AllocError>
-    requires place { place < length explorer.old.kept }
-    requires fresh { StartsFresh explorer.old.kept }
-    requires ended { HaveEndedAt explorer.old.kept place }
-    ensures same { explorer.new.kept ≡ explorer.old.kept }
+    requires place { place < length spread.old.kept }
+    requires fresh { StartsFresh spread.old.kept }
+    requires ended { HaveEndedAt spread.old.kept place }
+    ensures same { spread.new.kept ≡ spread.old.kept }
     ensures leads { IfOk result (λ way. IfSome way (λ by.
-        LeadsInBudget explorer.old.kept by.items place)) }
-    ensures out { IfOk result (λ way. IfNone way (CanRunOut explorer.old.kept)) }
+        LeadsInBudget spread.old.kept by.items place)) }
+    ensures out { IfOk result (λ way. IfNone way (CanRunOut spread.old.kept)) }
 {
     bpf_machine::laws::free_runs_agree();
-    let by = explorer.way(place)?;
-    if replay(explorer, &by)? {
+    let by = spread.way(place)?;
+    if spread.replay(&by)? {
         return Ok(None);
     }
     Ok(Some(by))
@@ -57,34 +57,34 @@ fn put_patiently(answers: &mut Vec<Answer>, at: usize, answer: Answer) -> Result
 /// yet. Whether it is one then: not where the schedule to it uses a budget up.
 fn tell_ended(
     alloc: Global,
-    explorer: &mut PatientExplorer,
+    spread: &mut Spread<Freely>,
     names: &Names,
     maps: bool,
     answers: &mut Vec<Answer>,
     place: usize,
 ) -> Result<bool, AllocError>
-    requires place { place < length explorer.old.kept }
-    requires fresh { StartsFresh explorer.old.kept }
-    requires ended { HaveEndedAt explorer.old.kept place }
+    requires place { place < length spread.old.kept }
+    requires fresh { StartsFresh spread.old.kept }
+    requires ended { HaveEndedAt spread.old.kept place }
     requires sorted { AreSorted answers.old.items }
-    requires ends { (w : World) → IsFirst explorer.old.kept w
+    requires ends { (w : World) → IsFirst spread.old.kept w
         → AllEndPatiently w (names_of names.now) maps answers.old.items }
-    ensures same { explorer.new.kept ≡ explorer.old.kept }
+    ensures same { spread.new.kept ≡ spread.old.kept }
     ensures sorted { AreSorted answers.new.items }
     ensures keeps { KeepsAll answers.old.items answers.new.items }
-    ensures ends { (w : World) → IsFirst explorer.old.kept w
+    ensures ends { (w : World) → IsFirst spread.old.kept w
         → AllEndPatiently w (names_of names.now) maps answers.new.items }
-    ensures answered { IfOk result (λ answered. answered ≡ true → IsAnsweredAt explorer.old.kept
+    ensures answered { IfOk result (λ answered. answered ≡ true → IsAnsweredAt spread.old.kept
         (names_of names.now) maps answers.new.items place) }
-    ensures out { IfOk result (λ answered. answered ≡ false → CanRunOut explorer.old.kept) }
+    ensures out { IfOk result (λ answered. answered ≡ false → CanRunOut spread.old.kept) }
 {
-    explorer.leads();
-    explorer.restore(place)?;
-    let Report { text, stopped } = tell(alloc, explorer.machine(), names, maps)?;
+    spread.leads();
+    spread.restore(place)?;
+    let Report { text, stopped } = tell(alloc, spread.machine(), names, maps)?;
     match place_of(answers, text.as_str()) {
         Ok(_) => Ok(true),
         Err(at) => {
-            let Some(by) = way_in_budget(explorer, place)? else {
+            let Some(by) = way_in_budget(spread, place)? else {
                 return Ok(false);
             };
             put_patiently(answers, at, Answer::new(text, stopped, by))?;
@@ -96,30 +96,30 @@ fn tell_ended(
 /// Puts what is printed of a kept machine among the answers, if it has no work.
 fn tell_at(
     alloc: Global,
-    explorer: &mut PatientExplorer,
+    spread: &mut Spread<Freely>,
     names: &Names,
     maps: bool,
     answers: &mut Vec<Answer>,
     place: usize,
 ) -> Result<bool, AllocError>
-    requires place { place < length explorer.old.kept }
-    requires fresh { StartsFresh explorer.old.kept }
+    requires place { place < length spread.old.kept }
+    requires fresh { StartsFresh spread.old.kept }
     requires sorted { AreSorted answers.old.items }
-    requires ends { (w : World) → IsFirst explorer.old.kept w
+    requires ends { (w : World) → IsFirst spread.old.kept w
         → AllEndPatiently w (names_of names.now) maps answers.old.items }
-    ensures same { explorer.new.kept ≡ explorer.old.kept }
+    ensures same { spread.new.kept ≡ spread.old.kept }
     ensures sorted { AreSorted answers.new.items }
     ensures keeps { KeepsAll answers.old.items answers.new.items }
-    ensures ends { (w : World) → IsFirst explorer.old.kept w
+    ensures ends { (w : World) → IsFirst spread.old.kept w
         → AllEndPatiently w (names_of names.now) maps answers.new.items }
-    ensures answered { IfOk result (λ answered. answered ≡ true → IsAnsweredAt explorer.old.kept
+    ensures answered { IfOk result (λ answered. answered ≡ true → IsAnsweredAt spread.old.kept
         (names_of names.now) maps answers.new.items place) }
-    ensures out { IfOk result (λ answered. answered ≡ false → CanRunOut explorer.old.kept) }
+    ensures out { IfOk result (λ answered. answered ≡ false → CanRunOut spread.old.kept) }
 {
-    if !explorer.has_ended(place) {
+    if !spread.has_ended(place) {
         return Ok(true);
     }
-    tell_ended(alloc, explorer, names, maps, answers, place)
+    tell_ended(alloc, spread, names, maps, answers, place)
 }
 
 /// Whether both hold.
@@ -133,22 +133,22 @@ pub(crate) fn both(first: bool, second: bool) -> bool
 /// The answers, and whether what is printed of each kept machine without work is one.
 pub(crate) fn gather_patiently(
     alloc: Global,
-    explorer: &mut PatientExplorer,
+    spread: &mut Spread<Freely>,
     names: &Names,
     maps: bool,
 ) -> Result<(Vec<Answer>, bool), AllocError>
-    requires { StartsFresh explorer.old.kept }
-    ensures same { explorer.new.kept ≡ explorer.old.kept }
-    ensures outcomes { IfOk result (λ r. (w : World) → IsFirst explorer.old.kept w
+    requires { StartsFresh spread.old.kept }
+    ensures same { spread.new.kept ≡ spread.old.kept }
+    ensures outcomes { IfOk result (λ r. (w : World) → IsFirst spread.old.kept w
         → ArePatient w (names_of names.now) maps r.0.items) }
-    ensures answered { IfOk result (λ r. r.1 ≡ true → (i : ℕ) → IsAnsweredAt explorer.old.kept
+    ensures answered { IfOk result (λ r. r.1 ≡ true → (i : ℕ) → IsAnsweredAt spread.old.kept
         (names_of names.now) maps r.0.items i) }
-    ensures out { IfOk result (λ r. r.1 ≡ false → CanRunOut explorer.old.kept) }
+    ensures out { IfOk result (λ r. r.1 ≡ false → CanRunOut spread.old.kept) }
 {
     let mut answers = Vec::new(alloc);
     let mut whole = true;
-    for place in 0..explorer.len() {
-        let answered = tell_at(alloc, explorer, names, maps, &mut answers, place)?;
+    for place in 0..spread.len() {
+        let answered = tell_at(alloc, spread, names, maps, &mut answers, place)?;
         whole = both(whole, answered);
     }
     Ok((answers, whole))

@@ -1,58 +1,62 @@
 //! A search that keeps one of the machines that are the same but for which of their equal jobs is how
 //! far.
 
-ghost use Rattle.std.specs.Prelude.{◌≡◌, ◌<◌, [], true, IfOk, length};
+ghost use Rattle.std.specs.Prelude.{◌≡◌, ◌<◌, [], IfOk, IfSome, length};
 ghost use Rattle.bpf_machine.specs.Machine.{MachineState};
 ghost use Rattle.bpf_alike.specs.Worlds.{AreLiveTables, table_at};
 ghost use Rattle.bpf_equal.specs.Groups.{ArePeers};
 ghost use Rattle.bpf_explore.specs.Album.{IsNumbered};
-ghost use Rattle.bpf_explore.specs.Search.{IsKept, Permuted};
-ghost use Rattle.bpf_explore.specs.Private.Peers.{FitPeers};
+ghost use Rattle.bpf_explore.specs.Private.Peers.{FitPeers, IsKeptElsewhereAt};
 
 use crate::album::{Album, Room};
 use crate::crew::Crew;
 use crate::explorer::Explorer;
 use crate::frontier::Frontier;
 use crate::places::Places;
+use crate::runs::Strictly;
 use crate::spread::Spread;
 use bpf_alike::Merged;
 use bpf_equal::{Peer, Twins};
 use std::alloc::{AllocError, Global};
 use std::marker::Model;
 
-/// Whether a kept machine is that of these numbers but for which of its equal jobs is how far.
-fn is_known(
-    explorer: &Explorer,
+/// The kept machine that is that of these numbers but for which of its equal jobs is how far, if one is.
+pub(crate) fn find_known(
+    album: &Album,
     twins: &mut Twins,
     places: &mut Places,
     numbers: &[u32],
-) -> Result<bool, AllocError>
-    requires numbered { (m : MachineState) × IsNumbered explorer.now.stock m numbers.now }
-    requires peers { ArePeers explorer.now.stock.shape explorer.now.stock.programs
+) -> Result<Option<usize>, AllocError>
+    requires numbered { (m : MachineState) × IsNumbered album.now.stock m numbers.now }
+    requires peers { ArePeers album.now.stock.shape album.now.stock.programs
         twins.old.peers.items }
-    requires tables { AreLiveTables explorer.now.stock.programs (table_at twins.old.tables.items) }
+    requires tables { AreLiveTables album.now.stock.programs (table_at twins.old.tables.items) }
     ensures peers { twins.new.peers ≡ twins.old.peers }
     ensures tables { twins.new.tables ≡ twins.old.tables }
-    ensures kept { IfOk result (λ is. is ≡ true → (m : MachineState)
-        → IsNumbered explorer.now.stock m numbers.now
-        → IsKept (Permuted twins.old.peers.items) explorer.now.kept m) }
+    ensures within { IfOk result (λ found. IfSome found (λ place. place < length album.now.kept)) }
+    ensures kept { IfOk result (λ found. IfSome found (λ place. (m : MachineState)
+        → IsNumbered album.now.stock m numbers.now
+        → IsKeptElsewhereAt twins.old.peers.items album.now.kept place m)) }
 {
-    let album = explorer.album();
     places.learn(album, twins)?;
     let hash = places.hash(twins, numbers);
     for step in 0..places.len() {
         let Some(place) = places.place(hash, step) else {
-            return Ok(false);
+            return Ok(None);
         };
         if place < album.len() && album.is_elsewhere(twins, place, numbers)? {
-            return Ok(true);
+            return Ok(Some(place));
         }
     }
-    Ok(false)
+    Ok(None)
 }
 
 /// Which jobs of a search are equal; none is to another where no states are merged.
-fn equal_jobs(alloc: Global, album: &Album, merged: Merged) -> Result<Vec<Peer>, AllocError>
+pub(crate) fn equal_jobs(
+    alloc: Global,
+    album: &Album,
+    merged: Merged,
+) -> Result<Vec<Peer>, AllocError>
     requires { 0 < length album.now.kept }
     ensures { IfOk result (λ peers. FitPeers album.now.stock album.now.kept peers.items) }
 {
@@ -110,7 +114,7 @@ impl PermutedExplorer {
     }
 
     /// What it kept, and the equal jobs.
-    pub(crate) fn into_spread(self) -> (Spread, Vec<Peer>)
+    pub(crate) fn into_spread(self) -> (Spread<Strictly>, Vec<Peer>)
         ensures spread { result.0 ≡ self.found }
         ensures peers { result.1.items ≡ self.peers }
         ensures fit { FitPeers self.found.stock self.found.kept self.peers }
@@ -161,7 +165,8 @@ impl Frontier for PermutedExplorer {
             return Ok(());
         };
         let numbers = &self.room.numbers;
-        if is_known(&self.explorer, &mut self.twins, &mut self.places, numbers)? {
+        let album = self.explorer.album();
+        if let Some(_) = find_known(album, &mut self.twins, &mut self.places, numbers)? {
             return Ok(());
         }
         let number = self.explorer.keep_turn(place, cpu, ahead, numbers)?;

@@ -5,7 +5,7 @@ ghost use Rattle.bpf_machine.specs.Patient.{NoneRanOut};
 ghost use Rattle.bpf_machine.specs.Schedule.{unrolled};
 ghost use Rattle.bpf_explore.specs.Private.Replays.{CanRunOut, IsReplayed, SomeRanOut};
 
-use crate::patient::PatientExplorer;
+use crate::album::Album;
 use bpf_cpu::Outcome;
 use bpf_machine::Machine;
 use std::alloc::AllocError;
@@ -23,16 +23,19 @@ pub(crate) fn some_ran_out(machine: &Machine) -> bool
     false
 }
 
-/// Makes the turns of a schedule from the first machine. Whether some job is out of budget then.
-pub(crate) fn replay(explorer: &mut PatientExplorer, by: &[(u8, u64)]) -> Result<bool, AllocError>
-    requires { 0 < length explorer.old.kept }
-    ensures same { explorer.new.kept ≡ explorer.old.kept }
-    ensures replayed { OnOk result (IsReplayed explorer.old.kept (unrolled by.now)
-        explorer.new.machine) }
-    ensures out { IfOk result (λ out. out ≡ true → CanRunOut explorer.old.kept) }
-    ensures none { IfOk result (λ out. out ≡ false → NoneRanOut explorer.new.machine.jobs) }
+/// Makes the turns of a schedule from the first machine of an album. Whether some job is out of budget
+/// then.
+pub(crate) fn replay_in(album: &mut Album, by: &[(u8, u64)]) -> Result<bool, AllocError>
+    requires { 0 < length album.old.kept }
+    ensures same { album.new.kept ≡ album.old.kept }
+    ensures cpus { album.new.cpus ≡ album.old.cpus }
+    ensures stock { album.new.stock ≡ album.old.stock }
+    ensures replayed { OnOk result (IsReplayed album.old.kept (unrolled by.now)
+        album.new.machine) }
+    ensures out { IfOk result (λ out. out ≡ true → CanRunOut album.old.kept) }
+    ensures none { IfOk result (λ out. out ≡ false → NoneRanOut album.new.machine.jobs) }
 {
-    explorer.restore(0)?;
-    explorer.turns_by(by);
-    Ok(some_ran_out(explorer.machine()))
+    album.restore(0)?;
+    album.turns_by(by);
+    Ok(some_ran_out(album.machine()))
 }

@@ -7,19 +7,23 @@ ghost use Rattle.bpf_explore.specs.Private.Replays.{CanRunOut, IsReached};
 use crate::album::number_of;
 use crate::depths::working_edge;
 use crate::explorer::{Origin, push_turns};
-use crate::patient::PatientExplorer;
+use crate::patient::{PatientExplorer, same_cpus};
 use crate::replays::some_ran_out;
-use crate::turns::Turns;
+use crate::turns::{Edge, Turns};
 use std::alloc::{AllocError, Global};
 
 /// How often a circle is gone round before it is given up.
 const ROUNDS: u32 = 4_000_000;
 
+/// How often at most the turns of a circle are put one after the other until each job is where it was: in
+/// a circle equal jobs may change places.
+const TRIPS: usize = 64;
+
 /// A circle of kept machines: one of them, and the turns that lead round to it.
 #[derive(Drop)]
 struct Circle {
     place: usize,
-    by: Vec<(u8, u64)>,
+    edges: Vec<Edge>,
 }
 
 /// Whether turns lead to this kept machine from one that is in a circle, or after one.
@@ -79,21 +83,28 @@ fn go_round(
     alloc: Global,
     before: &[Option<Origin>],
     place: usize,
-) -> Result<Vec<(u8, u64)>, AllocError> {
-    let mut by = Vec::new(alloc);
+) -> Result<Vec<Edge>, AllocError> {
+    let mut edges = Vec::new(alloc);
     let mut state = place;
     for _ in 0..before.len() {
         let Some(turn) = turn_before(before, state) else {
             break;
         };
-        push_turns(&mut by, turn.cpu, turn.ahead as u64 + 1)?;
-        state = turn.from as usize;
+        let Origin { from, ahead, cpu } = turn;
+        let to = number_of(state)?;
+        state = from as usize;
+        edges.push(Edge {
+            from: state,
+            to,
+            ahead,
+            cpu,
+        })?;
         if state == place {
             break;
         }
     }
-    by.reverse();
-    Ok(by)
+    edges.reverse();
+    Ok(edges)
 }
 
 /// A circle of kept machines, if there is one.
@@ -109,8 +120,74 @@ fn find_circle(
     let Some(place) = find_in_circle(&before, waits) else {
         return Ok(None);
     };
-    let by = go_round(alloc, &before, place)?;
-    Ok(Some(Circle { place, by }))
+    let edges = go_round(alloc, &before, place)?;
+    Ok(Some(Circle { place, edges }))
+}
+
+/// The CPU that is noted for this one.
+fn noted_cpu(noted: &[u8], cpu: u8) -> u8 {
+    match noted.get(usize::from(cpu)) {
+        Some(other) => *other,
+        None => cpu,
+    }
+}
+
+/// By each CPU, the one that a first list notes for the one that a second notes for it.
+fn both_noted(alloc: Global, first: &[u8], second: &[u8]) -> Result<Vec<u8>, AllocError> {
+    let mut both = Vec::new(alloc);
+    for cpu in second {
+        both.push(noted_cpu(first, *cpu))?;
+    }
+    Ok(both)
+}
+
+/// Whether each CPU is noted for itself.
+fn are_own(noted: &[u8]) -> bool {
+    noted
+        .iter()
+        .enumerate()
+        .all(|(cpu, other)| usize::from(*other) == cpu)
+}
+
+/// For each turn of a circle, the CPUs that jobs of the kept machine which it led to have after it.
+fn find_moves(
+    alloc: Global,
+    explorer: &mut PatientExplorer,
+    edges: &[Edge],
+) -> Result<Vec<Vec<u8>>, AllocError>
+    ensures same { explorer.new.kept ≡ explorer.old.kept }
+    ensures peers { explorer.new.peers ≡ explorer.old.peers }
+{
+    let mut moves = Vec::new(alloc);
+    for edge in edges {
+        if edge.from >= explorer.len() || edge.to as usize >= explorer.len() {
+            return Err(AllocError);
+        }
+        let moved = explorer.moved_by(*edge)?;
+        moves.push(moved)?;
+    }
+    Ok(moves)
+}
+
+/// The turns of a circle, by the CPUs that jobs have who go round, until each job is where it was.
+fn turns_round(
+    alloc: Global,
+    cpus: u8,
+    edges: &[Edge],
+    moves: &[Vec<u8>],
+) -> Result<Vec<(u8, u64)>, AllocError> {
+    let mut by = Vec::new(alloc);
+    let mut here = same_cpus(alloc, cpus)?;
+    for _ in 0..TRIPS {
+        for (edge, moved) in edges.iter().zip(moves) {
+            push_turns(&mut by, noted_cpu(&here, edge.cpu), edge.ahead as u64 + 1)?;
+            here = both_noted(alloc, &here, moved)?;
+        }
+        if are_own(&here) {
+            break;
+        }
+    }
+    Ok(by)
 }
 
 /// Makes the turns of a schedule from the first machine, and then those of another, again and
@@ -122,6 +199,7 @@ fn goes_round(
 ) -> Result<bool, AllocError>
     requires { 0 < length explorer.old.kept }
     ensures same { explorer.new.kept ≡ explorer.old.kept }
+    ensures peers { explorer.new.peers ≡ explorer.old.peers }
     ensures out { IfOk result (λ out. out ≡ true → CanRunOut explorer.old.kept) }
 {
     explorer.restore(0)?;
@@ -145,6 +223,7 @@ pub(crate) fn wears_out(
     requires first { 0 < length explorer.old.kept }
     requires turns { AreTurns explorer.old.kept turns.now }
     ensures same { explorer.new.kept ≡ explorer.old.kept }
+    ensures peers { explorer.new.peers ≡ explorer.old.peers }
     ensures out { IfOk result (λ out. out ≡ true → CanRunOut explorer.old.kept) }
 {
     let Some(circle) = find_circle(alloc, explorer, turns, waits)? else {
@@ -153,6 +232,8 @@ pub(crate) fn wears_out(
     if circle.place >= explorer.len() {
         return Ok(false);
     }
+    let moves = find_moves(alloc, explorer, &circle.edges)?;
+    let by = turns_round(alloc, turns.cpus, &circle.edges, &moves)?;
     let way = explorer.way(circle.place)?;
-    goes_round(explorer, &way, &circle.by)
+    goes_round(explorer, &way, &by)
 }

@@ -9,10 +9,12 @@ use crate::album::{Album, number_of};
 use crate::diving::{Course, dive};
 use crate::explorer::{Origin, way_back};
 use crate::frontier::{Extent, cut_short};
+use crate::replays::replay_in;
+use crate::runs::Runs;
 use bpf_equal::Peer;
 use bpf_machine::Machine;
 use std::alloc::{AllocError, Global};
-use std::marker::Model;
+use std::marker::{Model, PhantomData};
 
 /// How a kept end came about: as an earlier one, where two CPUs change places.
 #[derive(Clone, Copy)]
@@ -63,42 +65,47 @@ fn are_one_group(peers: &[Peer], one: usize, other: usize) -> bool
     peers[one].group == peers[other].group
 }
 
-/// An album, and how each of its machines came about: the first ones by turns, and each after them by
-/// an exchange.
+/// An album, and how each of its machines came about: the first ones by turns, in runs of this kind, and
+/// each after them by an exchange.
 #[derive(Drop)]
-pub(crate) struct Spread {
+pub(crate) struct Spread<R: Runs> {
     alloc: Global,
     album: Album,
     origins: Vec<Origin>,
     swaps: Vec<Swap>,
+    of: PhantomData<R>,
 }
 
-impl Model for Spread {
+impl<R: Runs> Model for Spread<R> {
     ghost use Rattle.bpf_explore.specs.Album.{AlbumState};
-    ghost use Rattle.bpf_explore.specs.Private.Spread.{AreSpread};
+    ghost use Rattle.bpf_explore.specs.Private.Spread.{AreRuns, AreSpread};
 
     ghost Value = { AlbumState };
 
     ghost view = { λ s. s.album };
 
-    ghost invariant = { λ s. AreSpread s.album.kept s.origins.items s.swaps.items };
+    ghost invariant = { λ s. AreRuns R.runs
+        × AreSpread R.runs s.album.kept s.origins.items s.swaps.items };
 }
 
-impl Spread {
+impl<R: Runs> Spread<R> {
     ghost use Rattle.std.specs.Prelude.{◌≡◌, ◌<◌, ◌≤◌, true, false, IfOk, OnOk, Some, None, length, slice_get};
-    ghost use Rattle.bpf_machine.specs.Schedule.{RunsSchedule, unrolled};
-    ghost use Rattle.bpf_explore.specs.Album.{AreApart, AreLed, LeadsFrom, HaveEndedAt};
-    ghost use Rattle.bpf_explore.specs.Private.Replays.{IsReplayed};
+    ghost use Rattle.bpf_machine.specs.Patient.{NoneRanOut};
+    ghost use Rattle.bpf_machine.specs.Schedule.{unrolled};
+    ghost use Rattle.bpf_explore.specs.Album.{AreApart, AreLedThrough, LeadsThrough, HaveEndedAt};
+    ghost use Rattle.bpf_explore.specs.Private.Replays.{CanRunOut, IsReplayed};
+    ghost use Rattle.bpf_explore.specs.Private.Spread.{AreRuns};
     ghost use Rattle.bpf_explore.specs.Private.Trail.{AreOrigins};
     ghost use Rattle.bpf_equal.specs.Covers.{KeepsEnds};
     ghost use Rattle.bpf_equal.specs.Peers.{AreOneGroup};
     ghost use Rattle.bpf_explore.specs.Search.{Extends};
     ghost use Rattle.bpf_explore.specs.Private.Answers.{StartsFresh};
-    ghost use Rattle.bpf_explore.specs.Private.Peers.{AreOfKind, CanExchange, FitPeers, HasGrown, IsKeptAround, IsKeptExchanged, IsKeptFrom};
+    ghost use Rattle.bpf_explore.specs.Private.Peers.{AreAllRefilled, AreOfKind, CanExchange, FitPeers, HasGrown, IsKeptAround, IsKeptExchanged, IsKeptFrom};
 
     /// Machines that all came about by turns.
-    pub fn new(alloc: Global, album: Album, origins: Vec<Origin>) -> Spread
-        requires { AreOrigins RunsSchedule album.kept origins.items }
+    pub fn new(alloc: Global, album: Album, origins: Vec<Origin>) -> Spread<R>
+        requires runs { AreRuns R.runs }
+        requires origins { AreOrigins R.runs album.kept origins.items }
         ensures { result ≡ album }
     {
         Spread {
@@ -106,6 +113,7 @@ impl Spread {
             album,
             origins,
             swaps: Vec::new(alloc),
+            of: PhantomData,
         }
     }
 
@@ -146,7 +154,8 @@ impl Spread {
     /// makes before the next.
     pub fn way(&self, place: usize) -> Result<Vec<(u8, u64)>, AllocError>
         requires { place < length self.now.kept }
-        ensures { IfOk result (λ by. LeadsFrom self.now.kept 0 (unrolled by.items) place) }
+        ensures { IfOk result
+            (λ by. LeadsThrough R.runs self.now.kept 0 (unrolled by.items) place) }
     {
         let mut noted = Vec::new(self.alloc);
         let mut state = place;
@@ -155,7 +164,7 @@ impl Spread {
             noted.push(swap)?;
             state = swap.from as usize;
         }
-        let mut by = way_back(self.alloc, &self.origins, state)?;
+        let mut by = way_back::<R>(self.alloc, &self.origins, state)?;
         while let Some(swap) = noted.pop() {
             exchange_turns(&mut by, swap.one, swap.other);
         }
@@ -175,9 +184,21 @@ impl Spread {
         Ok(by)
     }
 
-    /// A schedule leads to each of them.
+    /// Makes the turns of a schedule from the first machine. Whether some job is out of budget then.
+    pub fn replay(&mut self, by: &[(u8, u64)]) -> Result<bool, AllocError>
+        requires { 0 < length self.old.kept }
+        ensures same { self.new.kept ≡ self.old.kept }
+        ensures replayed { OnOk result (IsReplayed self.old.kept (unrolled by.now)
+            self.new.machine) }
+        ensures out { IfOk result (λ out. out ≡ true → CanRunOut self.old.kept) }
+        ensures none { IfOk result (λ out. out ≡ false → NoneRanOut self.new.machine.jobs) }
+    {
+        replay_in(&mut self.album, by)
+    }
+
+    /// A schedule leads to each of them, in runs of this kind.
     pub fn leads(&self)
-        ensures { AreLed self.now.kept }
+        ensures { AreLedThrough R.runs self.now.kept }
     {
         let _ = &self.origins;
     }
@@ -194,6 +215,13 @@ impl Spread {
         ensures { AreOfKind self.now.stock self.now.kept }
     {
         self.album.of_kind();
+    }
+
+    /// Its runs are of this kind.
+    fn runs(&self)
+        ensures { AreRuns R.runs }
+    {
+        let _ = &self.origins;
     }
 
     /// Keeps the end of a place with those of two equal jobs exchanged.
@@ -305,6 +333,7 @@ impl Spread {
         requires fit { FitPeers self.old.stock self.old.kept peers.now }
         ensures whole { result ≡ Extent.Whole → KeepsEnds peers.now self.new.kept }
         ensures extends { Extends self.old.kept self.new.kept }
+        ensures budgets { AreAllRefilled self.old.kept → AreAllRefilled self.new.kept }
         ensures met { result ≡ Extent.Limited → limit < length self.new.kept }
         ensures short { result ≡ Extent.Refused → length self.new.kept ≤ limit }
     {
@@ -318,6 +347,7 @@ impl Spread {
             };
             next += 1;
         }
+        self.runs();
         self.leads();
         self.of_kind();
         Extent::Whole

@@ -4,6 +4,8 @@ ghost use Rattle.std.specs.Prelude.{◌≡◌, ◌<◌, ◌/◌, ◌%◌, List, 
 ghost use Rattle.bpf_machine.specs.Machine.{MachineState};
 ghost use Rattle.bpf_explore.specs.Private.Edges.{AreTurns, IsEdgeOf};
 
+use bpf_equal::Peer;
+
 /// The kept machine that a turn led to, with n turns after it that no store sees. From which
 /// machine, and by which CPU, its place among the others says.
 #[derive(Clone, Copy)]
@@ -26,6 +28,8 @@ pub(crate) struct Edge {
 #[derive(Drop)]
 pub(crate) struct Turns {
     pub cpus: u8,
+    /// The jobs: equal ones may have changed places where a turn led.
+    pub peers: Vec<Peer>,
     /// Those of the first machine, CPU by CPU, and then those of the next.
     pub arrivals: Vec<Arrival>,
 }
@@ -45,7 +49,7 @@ impl Turns {
         requires { (kept : List MachineState) × AreTurns kept self.now × (place < length kept)
             × (cpu < self.now.cpus) }
         ensures { (kept : List MachineState) → AreTurns kept self.now → place < length kept
-            → IsEdgeOf kept place cpu result }
+            → IsEdgeOf self.now.peers.items kept place cpu result }
     {
         let Arrival { to, ahead } = self.arrivals[place * self.cpus as usize + cpu as usize];
         Edge {

@@ -4,6 +4,8 @@ use Rattle.bpf_machine.specs.Laws.{IsFresh}
 use Rattle.bpf_machine.specs.Machine.{MachineState}
 use Rattle.bpf_machine.specs.Schedule.{World, RunsSchedule, unrolled}
 use Rattle.bpf_machine.specs.Ends.{IsShownRichlyAt}
+use Rattle.bpf_equal.specs.declared.peers.Peer.{Peer}
+use Rattle.bpf_equal.specs.Worlds.{AreSymmetries}
 use Rattle.bpf_explore.specs.Album.{LeadsFreely}
 use Rattle.bpf_explore.specs.Patient.{HangsBy}
 use Rattle.bpf_explore.specs.Private.Answers.{IsFirst}
@@ -36,5 +38,14 @@ AllBeyondBelow kept marks hung n = (i : ℕ) → i < n → slice_get marks i ≡
     → IsBeyondOne kept hung i
 
 -- each kept machine leads to an end, or is beyond one of them
-abbrev pub AllLeadOrBeyond : List MachineState → List (List (ℕ × ℕ)) → Type 0
-AllLeadOrBeyond kept hung = (i : ℕ) → i < length kept → LeadsToEnd kept i ⊎ IsBeyondOne kept hung i
+abbrev pub AllLeadOrBeyond : List Peer → List MachineState → List (List (ℕ × ℕ)) → Type 0
+AllLeadOrBeyond peers kept hung =
+    (i : ℕ) → i < length kept → LeadsToEnd peers kept i ⊎ IsBeyondOne kept hung i
+
+-- each exchange of two of these jobs leaves the first machine as it is
+abbrev pub StaysFirst : List Peer → List MachineState → Type 0
+StaysFirst peers kept = (w : World) → IsFresh w → IsFirst kept w → AreSymmetries peers w
+
+-- the schedule is listed
+abbrev pub IsAmong : List (List (ℕ × ℕ)) → List (ℕ × ℕ) → Type 0
+IsAmong hung by = (k : ℕ) × (slice_get hung k ≡ Some by)

@@ -4,7 +4,10 @@ use Rattle.bpf_cpu.specs.Task.{Task}
 use Rattle.bpf_machine.specs.Cover.{IsShown}
 use Rattle.bpf_machine.specs.Machine.{MachineState, Shows}
 use Rattle.bpf_machine.specs.Parts.{CanStand}
+use Rattle.bpf_machine.specs.Patient.{AreRefilled}
 use Rattle.bpf_machine.specs.Schedule.{World}
+use Rattle.bpf_alike.specs.Ends.{IsShownAlikeAt}
+use Rattle.bpf_equal.specs.Covers.{ButForPlaces}
 use Rattle.bpf_equal.specs.Groups.{AreEquallyFresh, AreJobsOf, ArePeers}
 use Rattle.bpf_equal.specs.declared.peers.Peer.{Peer}
 use Rattle.bpf_equal.specs.Peers.{AreOneGroup}
@@ -49,7 +52,18 @@ pub record IsOfKind (stock : Stock) (m : MachineState) : Type 0 where
 abbrev pub AreOfKind : Stock → List MachineState → Type 0
 AreOfKind stock kept = (i : ℕ) (m : MachineState) → slice_get kept i ≡ Some m → IsOfKind stock m
 
+-- ---- what turns leave of jobs: their CPUs, programs and budgets
+pub record AreStill (old new : List Task) : Type 0 where
+  pub many : length new ≡ length old
+  pub each : (i : ℕ) (task : Task) → slice_get new i ≡ Some task → (was : Task) × (slice_get old i ≡ Some was)
+      × (task.cpu ≡ was.cpu) × (task.program ≡ was.program) × (task.budget ≡ was.budget)
+
 -- ---- equal jobs
+-- but for places of equal jobs and dead registers, all that the machine shows, the i-th kept one shows
+abbrev pub IsKeptElsewhereAt : List Peer → List MachineState → ℕ → MachineState → Type 0
+IsKeptElsewhereAt peers kept i m =
+    (w : World) → Shows m w → ButForPlaces peers (IsShownAlikeAt kept i) w
+
 -- these are the jobs of what is kept, and those of one group are equal in the first
 pub record FitPeers (stock : Stock) (kept : List MachineState) (peers : List Peer) : Type 0 where
   pub are : ArePeers stock.shape stock.programs peers
@@ -77,7 +91,12 @@ abbrev pub IsKeptAround : List Peer → List MachineState → ℕ → ℕ → Ty
 IsKeptAround peers kept i below = (j k : ℕ) (one other : Peer) → j < below → j < k
     → AreOneGroup peers j k one other → IsKeptExchanged kept i j k
 
--- more is kept, and nothing of it is lost
+-- each job in hand of each has its whole budget left
+abbrev pub AreAllRefilled : List MachineState → Type 0
+AreAllRefilled kept = (i : ℕ) (m : MachineState) → slice_get kept i ≡ Some m → AreRefilled m.jobs
+
+-- more is kept, nothing of it is lost, and no job in hand that lacks steps is new
 pub record HasGrown (old new : AlbumState) : Type 0 where
   pub kept : Extends old.kept new.kept
   pub stock : HasMore old.stock new.stock
+  pub whole : AreAllRefilled old.kept → AreAllRefilled new.kept

@@ -1,5 +1,5 @@
 -- How kept machines came about.
-use Rattle.std.specs.Prelude.{◌≡◌, ℕ, ◌<◌, List, ◌∷◌, length, replicate, slice_index_or}
+use Rattle.std.specs.Prelude.{◌≡◌, ℕ, ◌<◌, List, [], ◌∷◌, ◌++◌, length, replicate, slice_index_or}
 use Rattle.bpf_machine.specs.Machine.{MachineState}
 use Rattle.bpf_machine.specs.Schedule.{World}
 use Rattle.bpf_explore.specs.declared.explorer.Origin.{Origin}
@@ -22,3 +22,9 @@ pub record AreOrigins (runs : World → List ℕ → World → Type 0) (kept : L
     (origins : List Origin) : Type 0 where
   pub count : length origins ≡ length kept
   pub each : (i : ℕ) → 0 < i → i < length kept → IsOrigin runs kept i (origin_at origins i)
+
+-- ---- kinds of runs
+-- no turn leads nowhere, and turns may come after others
+abbrev pub StayAndJoin : (World → List ℕ → World → Type 0) → Type 0
+StayAndJoin runs = ((w : World) → runs w [] w)
+    × ((w m z : World) (cs ds : List ℕ) → runs w cs m → runs m ds z → runs w (cs ++ ds) z)

@@ -11,7 +11,7 @@ returns c is =
     let deeper : depth_at depths c.args.place + e.ahead + 1 ≤ depth_at depths e.to = subst
     (λ (n : ℕ). n + e.ahead + 1 ≤ depth_at depths e.to) c.depth_of-depth.ensures
     (subst (λ (n : ℕ). c.depth_of-depth.result + e.ahead + 1 ≤ n) c.depth_of-next.ensures sum) in
-    inr (edge_deeper c.args.explorer.now.kept depths c.args.place c.args.cpu e
+    inr (edge_deeper c.args.turns.now.peers.items c.args.explorer.now.kept depths c.args.place c.args.cpu e
     (c.edge-edge.ensures c.args.explorer.now.kept c.requires.turns c.requires.place) deeper)
 
 pub edge-edge-requires : goal.edge-edge-requires

@@ -11,7 +11,7 @@ use Rattle.bpf_explore.proofs.dives.dive_patiently.Goals as goal
 pub returns-in_err-add_answer-clause-ends : goal.returns-in_err-add_answer-clause-ends
 returns-in_err-add_answer-clause-ends c w first =
     let names = names_of c.args.names.now in
-    let kept = c.args.explorer.now.kept in
+    let kept = c.args.spread.now.kept in
     let m = c.dive.new.self.machine in
     let by = c.in_ok-by.by.items in
     let none_out = subst (λ (n : MachineState). NoneRanOut n.jobs) c.machine.ensures.machine (c.some_ran_out.ensures.none c.if-some_ran_out.false) in
@@ -29,7 +29,7 @@ returns-in_err-add_answer-clause-keeps c =
 pub loop-number-preserved : goal.loop-number-preserved
 loop-number-preserved c =
     let names = names_of c.args.names.now in
-    let kept = c.args.explorer.now.kept in
+    let kept = c.args.spread.now.kept in
     let m = c.dive.new.self.machine in
     let by = c.in_ok-by.by.items in
     let none_out = subst (λ (n : MachineState). NoneRanOut n.jobs) c.machine.ensures.machine (c.some_ran_out.ensures.none c.if-some_ran_out.false) in

@@ -7,8 +7,8 @@ use Rattle.bpf_explore.proofs.dives.dive_patiently.Given as goal
 
 abbrev pub invariant-loop-number : goal.invariant-loop-number
 invariant-loop-number l = record {
-  same : l.explorer.kept ≡ l.fn.explorer.kept;
+  same : l.spread.kept ≡ l.fn.spread.kept;
   sorted : AreSorted l.answers.items;
   keeps : KeepsAll l.fn.answers.items l.answers.items;
-  ends : (w : World) → IsFirst l.fn.explorer.kept w → AllEndPatiently w (names_of l.names) l.maps l.answers.items;
+  ends : (w : World) → IsFirst l.fn.spread.kept w → AllEndPatiently w (names_of l.names) l.maps l.answers.items;
 }

@@ -1,13 +1,13 @@
 use Rattle.std.proofs.Common.{◌≡◌, ◌+◌, false, if◌then◌else◌, length}
-use Rattle.bpf_alike.specs.Ends.{AreStuckAlike}
+use Rattle.bpf_equal.specs.Patient.{AreStuckPermuted}
 use Rattle.bpf_explore.specs.Private.Ends.{LeadToEnds, unmarked}
 use Rattle.bpf_explore.proofs.ends.mark_ends.Given as goal
 
 abbrev pub invariant-loop-more : goal.invariant-loop-more
 invariant-loop-more l = record {
   count : length l.marks.items ≡ length l.explorer.kept;
-  lead : LeadToEnds l.explorer.kept l.marks.items;
-  stuck : l.more ≡ false → AreStuckAlike l.explorer.kept l.marks.items;
+  lead : LeadToEnds l.turns.peers.items l.explorer.kept l.marks.items;
+  stuck : l.more ≡ false → AreStuckPermuted l.turns.peers.items l.explorer.kept l.marks.items;
 }
 
 -- each time but the last more are marked

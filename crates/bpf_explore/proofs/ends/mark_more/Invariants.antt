@@ -6,7 +6,7 @@ use Rattle.bpf_explore.proofs.ends.mark_more.Given as goal
 abbrev pub invariant-loop-step : goal.invariant-loop-step
 invariant-loop-step l = record {
   count : length l.marks.items ≡ length l.explorer.kept;
-  lead : LeadToEnds l.explorer.kept l.marks.items;
+  lead : LeadToEnds l.turns.peers.items l.explorer.kept l.marks.items;
   counted : Counted l.fn.marks.items l.marks.items l.more;
-  stuck : l.more ≡ false → StuckFrom l.explorer.kept l.marks.items (length l.explorer.kept - l.step);
+  stuck : l.more ≡ false → StuckFrom l.turns.peers.items l.explorer.kept l.marks.items (length l.explorer.kept - l.step);
 }

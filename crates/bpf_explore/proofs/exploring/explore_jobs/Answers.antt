@@ -6,7 +6,7 @@ use Rattle.bpf_jobs.specs.Printed.{first_of}
 use Rattle.bpf_explore.specs.declared.exploring.Explored.{Explored}
 use Rattle.bpf_explore.specs.Album.{BeginsAt}
 use Rattle.bpf_explore.specs.Outcomes.{IsExplored}
-use Rattle.bpf_explore.specs.Search.{CameToEnds}
+use Rattle.bpf_explore.specs.Search.{CameToEnds, ShowsEnds}
 use Rattle.bpf_explore.proofs.ExploreLaws.{starts_fresh, still_begins}
 use Rattle.bpf_explore.proofs.exploring.explore_jobs.Goals as goal
 
@@ -33,12 +33,12 @@ returns g c =
     let begins : BeginsAt kept w = still_begins c.in_ok-explorer.explorer.found.kept kept w c.in_ok-explorer.ensures c.explore-came.ensures.extends in
     let all = c.close_ends-spread.result.0.kept in
     let extent = c.close_ends-spread.result.1 in
-    let came : CameToEnds all extent limit = c.close_ends-spread.ensures.ends (record {
+    let came : CameToEnds ShowsEnds all extent limit = c.close_ends-spread.ensures.ends (record {
       whole = c.explore-came.ensures.whole;
       covers = c.explore-came.ensures.covers;
       met = c.explore-came.ensures.met;
       short = c.explore-came.ensures.short;
     }) in
-    IfOk-weaker c.conclude.result (λ (e : Explored). (v : World) (n : ℕ) → BeginsAt all v → CameToEnds all extent n → IsExplored v names
+    IfOk-weaker c.conclude.result (λ (e : Explored). (v : World) (n : ℕ) → BeginsAt all v → CameToEnds ShowsEnds all extent n → IsExplored v names
     maps e.answers.items e.all e.refused n e.states) (λ (e : Explored). IsExplored w names maps e.answers.items e.all e.refused limit e.states)
     (λ e found. found w limit (c.close_ends-spread.ensures.begins w begins) came) c.conclude.ensures

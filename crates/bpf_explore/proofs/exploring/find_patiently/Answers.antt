@@ -25,5 +25,5 @@ returns-clause-outcomes c w first = record {
 
 pub returns-clause-answered : goal.returns-clause-answered
 returns-clause-answered c told i =
-    answered_still c.args.explorer.now.kept (names_of c.args.names.now) c.args.maps c.in_ok-answers.answers.items
+    answered_still c.args.spread.now.kept (names_of c.args.names.now) c.args.maps c.in_ok-answers.answers.items
     c.dive_patiently.new.answers.items i c.dive_patiently.ensures.keeps (c.in_ok-answers.ensures.answered told i)

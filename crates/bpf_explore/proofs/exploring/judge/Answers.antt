@@ -1,4 +1,4 @@
-use Rattle.std.proofs.Common.{◌<◌, List, inl, inr, length, sym, subst}
+use Rattle.std.proofs.Common.{◌<◌, List, length, sym, subst}
 use Rattle.bpf_machine.specs.Machine.{MachineState}
 use Rattle.bpf_explore.specs.Private.Edges.{AreTurns}
 use Rattle.bpf_explore.specs.Private.Replays.{CanRunOut, NoneRunsOut}
@@ -13,17 +13,7 @@ pub find_budgets-requires-clause-turns : goal.find_budgets-requires-clause-turns
 find_budgets-requires-clause-turns c is = subst (λ (ms : List MachineState). AreTurns ms c.args.turns.now) (sym c.find_hung.ensures.same) (c.requires.turns is)
 
 pub find_budgets-requires-clause-out : goal.find_budgets-requires-clause-out
-find_budgets-requires-clause-out c is =
-    subst CanRunOut (sym c.find_hung.ensures.same) (elim (c.both-all_fit.ensures.not is) [
-      | inl a ↦ c.requires.out a
-      | inr a ↦ c.in_ok-hung.ensures.out a
-    ])
-
-pub returns-clause-told : goal.returns-clause-told
-returns-clause-told c is = (c.both-all_fit.ensures.both is).0
-
-pub returns-clause-ends : goal.returns-clause-ends
-returns-clause-ends c is fits = c.in_ok-hung.ensures.ends is (c.both-all_fit.ensures.both fits).1
+find_budgets-requires-clause-out c is = subst CanRunOut (sym c.find_hung.ensures.same) (c.in_ok-hung.ensures.out is)
 
 pub returns-clause-unfit : goal.returns-clause-unfit
 returns-clause-unfit c is = c.in_ok-budgets.ensures.unfit is

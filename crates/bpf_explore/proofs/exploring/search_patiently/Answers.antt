@@ -1,4 +1,3 @@
-use Rattle.std.proofs.Common.{ℕ}
 use Rattle.std.proofs.lemmas.Result.{IfOk-weaker}
 use Rattle.bpf_names.specs.Names.{names_of}
 use Rattle.bpf_machine.specs.Schedule.{World}
@@ -26,16 +25,17 @@ returns g c =
     let maps = c.args.maps in
     let limit = c.args.scope.limit in
     let kept = c.explore-extent.new.frontier.kept in
+    let peers = c.explore-extent.new.frontier.peers in
     let extent = c.explore-extent.result in
     let begins : BeginsAt kept w = still_begins c.in_ok-explorer.explorer.kept kept w c.in_ok-explorer.ensures.begins c.explore-extent.ensures.extends in
-    let came : CameTo Richly kept extent limit = record {
+    let came : CameTo (Richly peers) kept extent limit = record {
       whole = c.explore-extent.ensures.whole;
       covers = c.explore-extent.ensures.covers;
       met = c.explore-extent.ensures.met;
       short = c.explore-extent.ensures.short;
     } in
     IfOk-weaker c.conclude_patiently.result
-    (λ (e : ExploredPatiently). (v : World) (n : ℕ) → BeginsAt kept v → CameTo Richly kept extent n → IsSearchedPatiently v names maps
-    e.answers.items e.all e.refused n e.states e.hung.items e.budgets)
+    (λ (e : ExploredPatiently). (v : World) → BeginsAt kept v → CameTo (Richly peers) kept extent limit → IsSearchedPatiently v names maps
+    e.answers.items e.all e.refused limit e.states e.hung.items e.budgets)
     (λ (e : ExploredPatiently). IsSearchedPatiently w names maps e.answers.items e.all e.refused limit e.states e.hung.items e.budgets)
-    (λ e found. found w limit begins came) c.conclude_patiently.ensures
+    (λ e found. found w begins came) c.conclude_patiently.ensures

@@ -41,7 +41,7 @@ pub returns-clause-covers : goal.returns-clause-covers
 returns-clause-covers g c all =
     let kept = g.F.Frontier.kept in
     let manner = g.F.Frontier.manner in
-    covers_all c.alike_sets_cover.ensures c.alike_patient_sets_cover.ensures c.permuted_sets_cover.ensures (manner c.loop-next.frontier)
+    covers_all c.alike_sets_cover.ensures c.permuted_patient_sets_cover.ensures c.permuted_sets_cover.ensures (manner c.loop-next.frontier)
     (kept c.loop-next.frontier)
     (all_expanded (manner c.args.frontier.now) (manner c.loop-next.frontier) (kept c.args.frontier.now) (kept c.loop-next.frontier)
     c.loop-next.next (omega arith) c.loop-next.invariant.far)

@@ -5,8 +5,8 @@ use Rattle.bpf_explore.proofs.hung.add_hung.Goals as goal
 
 pub hung_at-requires : goal.hung_at-requires
 hung_at-requires c = record {
-  place = subst (λ (n : ℕ). c.args.place < n) c.requires.marked.count c.requires.place;
-  stuck = c.requires.marked.stuck;
+  place = subst (λ (n : ℕ). c.args.place < n) c.requires.marked.1.count c.requires.place;
+  stuck = (c.requires.marked.0, c.requires.marked.1.stuck);
   unmarked = c.if-not-is_first_hung.ensures.first refl;
 }
 

@@ -16,4 +16,4 @@ returns-then-not-none_ran_out-clause-out c is = subst CanRunOut c.loop-place.inv
 pub returns-clause-on : goal.returns-clause-on
 returns-clause-on c is i m at =
     let inside = slice_get_within c.args.explorer.now.kept i m at in
-    c.loop-place.invariant.1 i (omega arith) m at
+    c.loop-place.invariant.2 i (omega arith) m at

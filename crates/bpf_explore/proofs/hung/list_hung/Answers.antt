@@ -9,13 +9,17 @@ use Rattle.bpf_explore.proofs.hung.list_hung.Goals as goal
 pub loop-place-init : goal.loop-place-init
 loop-place-init c = record {
   same = refl;
+  peers = refl;
   hung = subst (AllHang c.args.explorer.now.kept) (sym c.new-hung.ensures.items) (none_hung c.args.explorer.now.kept);
   listed = λ fits i less off. absurd (omega arith);
   out = λ is. cc;
 }
 
 pub add_hung-requires-clause-marked : goal.add_hung-requires-clause-marked
-add_hung-requires-clause-marked c = subst (λ (kept : List MachineState). AreMarked kept c.args.marks.now) (sym c.loop-place.invariant.same) c.requires
+add_hung-requires-clause-marked c = (
+  c.requires.0,
+  subst (λ (kept : List MachineState). AreMarked c.requires.0 kept c.args.marks.now) (sym c.loop-place.invariant.same) c.requires.1,
+)
 
 pub loop-place-preserved : goal.loop-place-preserved
 loop-place-preserved c =
@@ -24,6 +28,7 @@ loop-place-preserved c =
     let place = c.loop-place.place in
     record {
       same = c.add_hung.ensures.same ∙ same;
+      peers = c.add_hung.ensures.peers ∙ c.loop-place.invariant.peers;
       hung = subst (λ (kept : List MachineState). AllHang kept c.loop-place.hung.items → AllHang kept c.add_hung.new.hung.items) same
           c.in_ok-fits.ensures.hung c.loop-place.invariant.hung;
       listed = λ is. (

@@ -10,7 +10,7 @@ use Rattle.bpf_explore.proofs.patience.gather_patiently.Goals as goal
 pub loop-place-init : goal.loop-place-init
 loop-place-init c =
     let names = names_of c.args.names.now in
-    let kept = c.args.explorer.now.kept in (
+    let kept = c.args.spread.now.kept in (
       refl,
       subst (λ (answers : List Found). Gathered kept names c.args.maps 0 true answers) (sym c.new-answers.ensures.items)
           (none_gathered kept names c.args.maps),
@@ -34,7 +34,7 @@ returns-in_err-answered-clause-same c = c.tell_at.ensures.same ∙ c.loop-place.
 pub loop-place-preserved : goal.loop-place-preserved
 loop-place-preserved c =
     let names = names_of c.args.names.now in
-    let kept = c.args.explorer.now.kept in
+    let kept = c.args.spread.now.kept in
     let same = c.loop-place.invariant.0 in
     let far = c.loop-place.invariant.1 in (
       c.tell_at.ensures.same ∙ same,
@@ -56,7 +56,7 @@ returns-clause-outcomes c w first = record { each = c.loop-place.invariant.1.end
 
 pub returns-clause-answered : goal.returns-clause-answered
 returns-clause-answered c =
-    all_gathered c.args.explorer.now.kept (names_of c.args.names.now) c.args.maps c.loop-place.place c.loop-place.whole
+    all_gathered c.args.spread.now.kept (names_of c.args.names.now) c.args.maps c.loop-place.place c.loop-place.whole
     c.loop-place.answers.items (omega arith) c.loop-place.invariant.1
 
 pub returns-clause-out : goal.returns-clause-out

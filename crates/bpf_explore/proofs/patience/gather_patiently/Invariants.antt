@@ -4,4 +4,4 @@ use Rattle.bpf_explore.proofs.PatienceLaws.{Gathered}
 use Rattle.bpf_explore.proofs.patience.gather_patiently.Given as goal
 
 abbrev pub invariant-loop-place : goal.invariant-loop-place
-invariant-loop-place l = (l.explorer.kept ≡ l.fn.explorer.kept) × Gathered l.fn.explorer.kept (names_of l.names) l.maps l.place l.whole l.answers.items
+invariant-loop-place l = (l.spread.kept ≡ l.fn.spread.kept) × Gathered l.fn.spread.kept (names_of l.names) l.maps l.place l.whole l.answers.items

@@ -5,7 +5,7 @@ use Rattle.bpf_explore.proofs.patience.tell_at.Goals as goal
 
 pub returns-then-not-has_ended-clause-answered : goal.returns-then-not-has_ended-clause-answered
 returns-then-not-has_ended-clause-answered c is =
-    has_work c.args.explorer.now.kept (names_of c.args.names.now) c.args.maps c.args.answers.now.items c.args.place (c.if-not-has_ended.ensures.works refl)
+    has_work c.args.spread.now.kept (names_of c.args.names.now) c.args.maps c.args.answers.now.items c.args.place (c.if-not-has_ended.ensures.works refl)
 
 pub returns-then-not-has_ended-clause-keeps : goal.returns-then-not-has_ended-clause-keeps
 returns-then-not-has_ended-clause-keeps c i found at = (i, at)

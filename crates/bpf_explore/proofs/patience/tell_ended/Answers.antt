@@ -19,7 +19,7 @@ pub returns-in-Ok-clause-answered : goal.returns-in-Ok-clause-answered
 returns-in-Ok-clause-answered c is =
     let names = names_of c.args.names.now in
     let maps = c.args.maps in
-    let kept = c.args.explorer.now.kept in
+    let kept = c.args.spread.now.kept in
     let m = c.restore.new.self.machine in
     let text = string_bytes c.in_ok-text.field-0.text in
     let stopped = c.in_ok-text.field-0.stopped in
@@ -54,7 +54,7 @@ pub returns-in_ok-put_patiently-in-Err-clause-ends : goal.returns-in_ok-put_pati
 returns-in_ok-put_patiently-in-Err-clause-ends c w first =
     let names = names_of c.args.names.now in
     let maps = c.args.maps in
-    let kept = c.args.explorer.now.kept in
+    let kept = c.args.spread.now.kept in
     let m = c.restore.new.self.machine in
     let text = string_bytes c.in_ok-text.field-0.text in
     let stopped = c.in_ok-text.field-0.stopped in
@@ -72,7 +72,7 @@ pub returns-in_err-put_patiently-in-Err-clause-ends : goal.returns-in_err-put_pa
 returns-in_err-put_patiently-in-Err-clause-ends c w first =
     let names = names_of c.args.names.now in
     let maps = c.args.maps in
-    let kept = c.args.explorer.now.kept in
+    let kept = c.args.spread.now.kept in
     let m = c.restore.new.self.machine in
     let text = string_bytes c.in_ok-text.field-0.text in
     let stopped = c.in_ok-text.field-0.stopped in
@@ -90,7 +90,7 @@ pub returns-in_ok-put_patiently-in-Err-clause-answered : goal.returns-in_ok-put_
 returns-in_ok-put_patiently-in-Err-clause-answered c is =
     let names = names_of c.args.names.now in
     let maps = c.args.maps in
-    let kept = c.args.explorer.now.kept in
+    let kept = c.args.spread.now.kept in
     let m = c.restore.new.self.machine in
     let text = string_bytes c.in_ok-text.field-0.text in
     let stopped = c.in_ok-text.field-0.stopped in

@@ -9,8 +9,8 @@ returns-then-branch-clause-out c = c.in_ok-replay.ensures.out c.if-branch.true
 
 pub returns-clause-leads : goal.returns-clause-leads
 returns-clause-leads c =
-    let kept = c.args.explorer.now.kept in
-    let m = c.replay.new.explorer.machine in
+    let kept = c.args.spread.now.kept in
+    let m = c.replay.new.self.machine in
     leads_there c.free_runs_agree.ensures kept c.in_ok-by.by.items c.args.place m c.requires.fresh c.requires.ended c.in_ok-by.ensures
     (subst (λ (by : List (ℕ × ℕ)). IsReplayed kept (unrolled by) m) c.deref.ensures.value c.in_ok-replay.ensures.replayed)
     (c.in_ok-replay.ensures.none c.if-branch.false)

@@ -7,7 +7,7 @@ use Rattle.bpf_alike.specs.Worlds.{AreLiveTables, table_at}
 use Rattle.bpf_equal.specs.Groups.{AreJobsOf, ArePeers}
 use Rattle.bpf_equal.specs.Twins.{AreAlikeElsewhere}
 use Rattle.bpf_explore.specs.Album.{AlbumState, IsNumbered}
-use Rattle.bpf_explore.specs.Search.{IsKept, Permuted}
+use Rattle.bpf_explore.specs.Private.Peers.{IsKeptElsewhereAt}
 use Rattle.bpf_explore.specs.Tuples.{tuple_at}
 use Rattle.bpf_explore.proofs.AlbumLaws.{shelf_of, kept_inside}
 use Rattle.bpf_explore.proofs.ElsewhereLaws.{kept_elsewhere}
@@ -45,7 +45,7 @@ returns-clause-kept c is one given =
     let store : slice_index_or tuple 0 0 ≡ slice_index_or numbers 0 0 = ap (λ (ns : List ℕ). slice_index_or ns 0 0) (sym same) ∙ c.if-tuple-numbers.false in
     let some : 0 < length peers = c.in_ok-is.ensures.some is in
     elim (slice_get_cases peers 0).1 [
-      | inl x ↦ subst (λ (a : AlbumState). IsKept (Permuted peers) a.kept one) c.self.view_is
+      | inl x ↦ subst (λ (a : AlbumState). IsKeptElsewhereAt peers a.kept c.args.place one) c.self.view_is
           (kept_elsewhere m.shape shelf one numbers c.self.invariant.0 numbered peers tables are right jobs x.0 x.2 c.args.place inside store elsewhere)
       | inr x ↦ absurd (omega (arith, x.0, some))
     ]

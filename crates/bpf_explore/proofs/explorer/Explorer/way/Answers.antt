@@ -5,6 +5,7 @@ use Rattle.bpf_machine.specs.Schedule.{RunsSchedule, unrolled}
 use Rattle.bpf_explore.specs.declared.explorer.Origin.{Origin}
 use Rattle.bpf_explore.specs.Album.{AlbumState, LeadsFrom}
 use Rattle.bpf_explore.specs.Private.Trail.{AreOrigins}
+use Rattle.bpf_explore.proofs.RunsLaws.{strict_runs}
 use Rattle.bpf_explore.proofs.explorer.Explorer.way.Goals as goal
 
 pub way_back-requires : goal.way_back-requires
@@ -15,6 +16,7 @@ way_back-requires c =
     let there : c.args.place < length m.album.kept = subst (λ (a : AlbumState). c.args.place < length a.kept) (sym c.self.view_is) c.requires in
     let inside : c.args.place < length m.origins.items = omega arith in
     record {
+      runs = strict_runs;
       are = (m.album.kept, subst (AreOrigins RunsSchedule m.album.kept) same c.self.invariant.0);
       place = subst (λ (os : List Origin). c.args.place < length os) same inside;
     }

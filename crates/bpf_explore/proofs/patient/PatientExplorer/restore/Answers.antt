@@ -1,13 +1,10 @@
-use Rattle.std.proofs.Common.{true}
-use Rattle.bpf_explore.proofs.ScoutLaws.{scouts_still}
-use Rattle.bpf_explore.proofs.TurnedLaws.{tracked_still}
+use Rattle.std.proofs.Common.{◌≡◌}
+use Rattle.bpf_explore.proofs.PatientStill.{patient_same}
 use Rattle.bpf_explore.proofs.patient.PatientExplorer.restore.Goals as goal
 
 pub invariant_of-self : goal.invariant_of-self
 invariant_of-self c =
-    let m = c.self.inside in (
-      tracked_still m.album.kept c.restore.new.self.kept m.album.cpus c.restore.new.self.cpus m.origins.items m.arrivals.items
-          c.restore.ensures.same c.restore.ensures.cpus c.self.invariant.0,
-      scouts_still true m.album.kept c.restore.new.self.kept m.album.stock c.restore.new.self.stock m.scouts.scouts.items
-          c.restore.ensures.same c.restore.ensures.stock c.self.invariant.1,
-    )
+    let m = c.self.inside in
+    let now = c.restore.new.self in
+    patient_same m.origins.items m.arrivals.items m.scouts.scouts.items m.twins.peers.items m.twins.tables.items m.album.kept now.kept m.album.stock
+    now.stock m.album.cpus now.cpus c.restore.ensures.same c.restore.ensures.stock c.restore.ensures.cpus c.self.invariant

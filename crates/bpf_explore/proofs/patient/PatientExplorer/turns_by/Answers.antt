@@ -1,8 +1,7 @@
-use Rattle.std.proofs.Common.{true, sym, subst}
+use Rattle.std.proofs.Common.{sym, subst}
 use Rattle.bpf_machine.specs.Machine.{Shows}
 use Rattle.bpf_explore.specs.Album.{PatientState}
-use Rattle.bpf_explore.proofs.ScoutLaws.{scouts_still}
-use Rattle.bpf_explore.proofs.TurnedLaws.{tracked_still}
+use Rattle.bpf_explore.proofs.PatientStill.{patient_same}
 use Rattle.bpf_explore.proofs.patient.PatientExplorer.turns_by.Goals as goal
 
 pub returns-clause-runs : goal.returns-clause-runs
@@ -10,9 +9,7 @@ returns-clause-runs c w shows = c.turns_by.ensures.runs w (subst (λ (a : Patien
 
 pub invariant_of-self : goal.invariant_of-self
 invariant_of-self c =
-    let m = c.self.inside in (
-      tracked_still m.album.kept c.turns_by.new.self.kept m.album.cpus c.turns_by.new.self.cpus m.origins.items m.arrivals.items
-          c.turns_by.ensures.same c.turns_by.ensures.cpus c.self.invariant.0,
-      scouts_still true m.album.kept c.turns_by.new.self.kept m.album.stock c.turns_by.new.self.stock m.scouts.scouts.items
-          c.turns_by.ensures.same c.turns_by.ensures.stock c.self.invariant.1,
-    )
+    let m = c.self.inside in
+    let now = c.turns_by.new.self in
+    patient_same m.origins.items m.arrivals.items m.scouts.scouts.items m.twins.peers.items m.twins.tables.items m.album.kept now.kept m.album.stock
+    now.stock m.album.cpus now.cpus c.turns_by.ensures.same c.turns_by.ensures.stock c.turns_by.ensures.cpus c.self.invariant

@@ -1,34 +1,29 @@
-use Rattle.std.proofs.Common.{◌≡◌, ◌<◌, ℕ, List, length, reverse, sym, subst, arith}
-use Rattle.bpf_machine.specs.Schedule.{unrolled}
+use Rattle.std.proofs.Common.{◌<◌, List, length, sym, subst, arith}
 use Rattle.bpf_machine.specs.Ends.{RunsFreely}
-use Rattle.bpf_explore.specs.Album.{PatientState, LeadsFreely}
-use Rattle.bpf_explore.proofs.TrailLaws.{free_runs_join, leads_nowhere, read_origin, one_back_more}
+use Rattle.bpf_machine.specs.Machine.{MachineState}
+use Rattle.bpf_machine.specs.Schedule.{unrolled}
+use Rattle.std.proofs.lemmas.Result.{IfOk-weaker}
+use Rattle.bpf_explore.specs.declared.explorer.Origin.{Origin}
+use Rattle.bpf_explore.specs.Album.{LeadsFreely, PatientState}
+use Rattle.bpf_explore.specs.Private.Trail.{AreOrigins}
+use Rattle.bpf_explore.proofs.RunsLaws.{free_runs}
 use Rattle.bpf_explore.proofs.patient.PatientExplorer.way.Goals as goal
 
-pub loop-state-init : goal.loop-state-init
-loop-state-init c =
+pub way_back-requires : goal.way_back-requires
+way_back-requires c =
     let m = c.self.inside in
+    let same = sym c.deref.ensures.value in
+    let there = subst (λ (a : PatientState). c.args.place < length a.kept) (sym c.self.view_is) c.requires in
     record {
-      inside = subst (λ (a : PatientState). c.args.place < length a.kept) (sym c.self.view_is) c.requires;
-      leads = subst (λ (by : List (ℕ × ℕ)). LeadsFreely m.album.kept c.args.place (unrolled (reverse by)) c.args.place)
-          (sym c.new-by.ensures.items) (leads_nowhere RunsFreely free_runs_join m.album.kept c.args.place);
+      runs = free_runs;
+      are = (m.album.kept, subst (AreOrigins RunsFreely m.album.kept) same c.self.invariant.0.0);
+      place = subst (λ (os : List Origin). c.args.place < length os) same (omega (arith, there, c.self.invariant.0.0.count));
     }
 
-pub loop-state-preserved : goal.loop-state-preserved
-loop-state-preserved c =
-    let m = c.self.inside in
-    let i = c.loop-state.invariant.inside in
-    let count = c.self.invariant.0.0.count in
-    let at = read_origin RunsFreely free_runs_join m.origins.items c.loop-state.state c.index-origin.result.now (omega arith) c.index-origin.ensures in
-    let r = one_back_more RunsFreely free_runs_join m.album.kept m.origins.items c.loop-state.state c.args.place c.index-origin.result.now
-    c.loop-state.by.items c.push_turns.new.by.items c.self.invariant.0.0 (omega arith) i at c.loop-state.invariant.leads
-    c.in_ok-push_turns.ensures in
-    record { inside = r.0; leads = r.1 }
-
 pub returns : goal.returns
-returns c =
-    let m = c.self.inside in
-    let first : c.loop-state.state ≡ 0 = omega arith in
-    subst (λ (a : PatientState). LeadsFreely a.kept 0 (unrolled c.reverse.new.self.items) c.args.place) c.self.view_is
-    (subst (λ (by : List (ℕ × ℕ)). LeadsFreely m.album.kept 0 (unrolled by) c.args.place) (sym c.reverse.ensures.items)
-    (subst (λ (k : ℕ). LeadsFreely m.album.kept k (unrolled (reverse c.loop-state.by.items)) c.args.place) first c.loop-state.invariant.leads))
+returns c = IfOk-weaker c.way_back.result (λ by. (kept : List MachineState) → AreOrigins RunsFreely kept c.deref.result.now → LeadsFreely
+    kept 0 (unrolled by.items) c.args.place)
+    (λ by. LeadsFreely c.args.self.now.kept 0 (unrolled by.items) c.args.place)
+    (λ by led. subst (λ (a : PatientState). LeadsFreely a.kept 0 (unrolled by.items) c.args.place) c.self.view_is
+    (led c.self.inside.album.kept (subst (AreOrigins RunsFreely c.self.inside.album.kept) (sym c.deref.ensures.value) c.self.invariant.0.0)))
+    c.way_back.ensures

@@ -1,10 +1,11 @@
 use Rattle.std.proofs.Common.{◌∙◌, Vec, Global, ap, subst}
-use Rattle.bpf_machine.specs.Schedule.{World}
+use Rattle.bpf_machine.specs.Schedule.{RunsSchedule, World}
 use Rattle.bpf_equal.specs.Races.{StaysExchanged}
 use Rattle.bpf_equal.specs.declared.peers.Peer.{Peer}
-use Rattle.bpf_explore.specs.Album.{AlbumState, AreLed, BeginsAt, PermutedState}
+use Rattle.bpf_explore.specs.Album.{AlbumState, BeginsAt, PermutedState}
 use Rattle.bpf_explore.specs.Private.Peers.{AreOfKind}
 use Rattle.bpf_explore.proofs.PeerLaws.{equal_stay}
+use Rattle.bpf_explore.proofs.RunsLaws.{strict_runs}
 use Rattle.bpf_explore.proofs.permuted.PermutedExplorer.into_parts.Goals as goal
 
 pub returns-clause-found : goal.returns-clause-found
@@ -17,5 +18,5 @@ pub returns-clause-stays : goal.returns-clause-stays
 returns-clause-stays c =
     let m = c.self.inside in
     subst (λ (p : PermutedState). (w : World) → BeginsAt p.found.kept w → StaysExchanged p.peers w) c.self.view_is
-    (equal_stay m.explorer.stock m.explorer.kept m.twins.peers.items c.self.invariant.fit
+    (equal_stay RunsSchedule strict_runs m.explorer.stock m.explorer.kept m.twins.peers.items c.self.invariant.fit
     (subst (λ (a : AlbumState). AreOfKind a.stock a.kept) c.album.ensures c.of_kind.ensures) c.leads.ensures)

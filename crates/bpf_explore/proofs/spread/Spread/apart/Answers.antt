@@ -3,4 +3,4 @@ use Rattle.bpf_explore.specs.Album.{AlbumState, AreApart}
 use Rattle.bpf_explore.proofs.spread.Spread.apart.Goals as goal
 
 pub returns : goal.returns
-returns c = subst (λ (a : AlbumState). AreApart a.kept) c.self.view_is c.apart.ensures
+returns g c = subst (λ (a : AlbumState). AreApart a.kept) c.self.view_is c.apart.ensures

@@ -3,7 +3,7 @@ use Rattle.bpf_explore.proofs.CloseLaws.{can_still, ended_still, grown_on, longe
 use Rattle.bpf_explore.proofs.spread.Spread.keep_around.Goals as goal
 
 pub keep_from-requires : goal.keep_from-requires
-keep_from-requires c =
+keep_from-requires g c =
     let old = c.args.self.now in
     let now = c.loop-one.self in
     let grown = c.loop-one.invariant.grown in
@@ -16,7 +16,7 @@ keep_from-requires c =
     }
 
 pub loop-one-preserved : goal.loop-one-preserved
-loop-one-preserved c =
+loop-one-preserved g c =
     let old = c.args.self.now in
     let now = c.loop-one.self in
     let next = c.keep_from.new.self in
@@ -29,4 +29,7 @@ loop-one-preserved c =
     }
 
 pub returns-clause-kept : goal.returns-clause-kept
-returns-clause-kept c j k one other below less group = c.loop-one.invariant.kept j k one other (omega arith) less group
+returns-clause-kept g c j k one other below less group = c.loop-one.invariant.kept j k one other (omega arith) less group
+
+pub returns-in_err-keep_from-clause-grown : goal.returns-in_err-keep_from-clause-grown
+returns-in_err-keep_from-clause-grown g c = grown_on c.args.self.now c.loop-one.self c.keep_from.new.self c.loop-one.invariant.grown c.keep_from.ensures.grown

@@ -3,7 +3,7 @@ use Rattle.bpf_explore.proofs.CloseLaws.{can_still, ended_still, grown_on, longe
 use Rattle.bpf_explore.proofs.spread.Spread.keep_from.Goals as goal
 
 pub keep_if_equal-requires : goal.keep_if_equal-requires
-keep_if_equal-requires c =
+keep_if_equal-requires g c =
     let old = c.args.self.now in
     let now = c.loop-other.self in
     let grown = c.loop-other.invariant.grown in
@@ -18,7 +18,7 @@ keep_if_equal-requires c =
     }
 
 pub loop-other-preserved : goal.loop-other-preserved
-loop-other-preserved c =
+loop-other-preserved g c =
     let old = c.args.self.now in
     let now = c.loop-other.self in
     let next = c.keep_if_equal.new.self in
@@ -31,4 +31,8 @@ loop-other-preserved c =
     }
 
 pub returns-clause-kept : goal.returns-clause-kept
-returns-clause-kept c k one other less below group = c.loop-other.invariant.kept k one other less (omega arith) group
+returns-clause-kept g c k one other less below group = c.loop-other.invariant.kept k one other less (omega arith) group
+
+pub returns-in_err-keep_if_equal-clause-grown : goal.returns-in_err-keep_if_equal-clause-grown
+returns-in_err-keep_if_equal-clause-grown g c = grown_on c.args.self.now c.loop-other.self c.keep_if_equal.new.self
+    c.loop-other.invariant.grown c.keep_if_equal.ensures.grown

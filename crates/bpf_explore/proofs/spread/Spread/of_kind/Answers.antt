@@ -4,4 +4,4 @@ use Rattle.bpf_explore.specs.Private.Peers.{AreOfKind}
 use Rattle.bpf_explore.proofs.spread.Spread.of_kind.Goals as goal
 
 pub returns : goal.returns
-returns c = subst (λ (a : AlbumState). AreOfKind a.stock a.kept) c.self.view_is c.of_kind.ensures
+returns g c = subst (λ (a : AlbumState). AreOfKind a.stock a.kept) c.self.view_is c.of_kind.ensures

@@ -33,4 +33,4 @@ returns c kept are less =
     let inside = turn_inside kept turns c.args.place c.args.cpu are less own in
     let read = slice_get_read arrivals (length arrivals) number a refl inside c.index.ensures in
     let e = edge_of turns.cpus (0 + number) a in
-    placed_edge kept c.args.place c.args.cpu e (are.each c.args.place c.args.cpu e less own (read_edge turns.cpus 0 arrivals number a read))
+    placed_edge turns.peers.items kept c.args.place c.args.cpu e (are.each c.args.place c.args.cpu e less own (read_edge turns.cpus 0 arrivals number a read))

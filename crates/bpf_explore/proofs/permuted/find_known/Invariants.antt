@@ -1,5 +1,5 @@
 use Rattle.std.proofs.Common.{◌≡◌}
-use Rattle.bpf_explore.proofs.permuted.is_known.Given as goal
+use Rattle.bpf_explore.proofs.permuted.find_known.Given as goal
 
 abbrev pub invariant-loop-step : goal.invariant-loop-step
 invariant-loop-step l = record {
