@@ -1,7 +1,7 @@
 -- Races where two equal CPUs change places.
 use Rattle.std.proofs.Common.{◌≡◌, ◌≢◌, ◌∙◌, ℕ, ◌+◌, ◌<◌, ◌≤◌, ◌⊎◌, Bool, true, false, if◌then◌else◌, nat_lt, List, [], ◌∷◌}
 use Rattle.std.proofs.Common.{◌++◌, Option, Some, None}
-use Rattle.std.proofs.Common.{inl, inr, refl, sym, ap, subst, length, map, append-nil, append_assoc, arith}
+use Rattle.std.proofs.Common.{inl, inr, refl, sym, ap, subst, length, map, append-nil, append_assoc, length-append, arith}
 use Rattle.std.specs.Prelude.{slice_get, slice_index_or}
 use Rattle.std.proofs.lemmas.Bool.{cases_lt}
 use Rattle.std.proofs.lemmas.Bool.Decides.{nat_tests}
@@ -23,7 +23,7 @@ use Rattle.bpf_races.specs.declared.sync.Part.{Part}
 use Rattle.bpf_races.specs.Touch.{IsAmong}
 use Rattle.bpf_races.specs.Parts.{IsLeftOut, map_at}
 use Rattle.bpf_races.specs.Races.{RaceFound, RacesBy, AreOnce, IsKeyAt, IsListed, IsTold, Spot, spot_of}
-use Rattle.bpf_races.specs.Private.Exchanging.{AreAllBy, AreClosed, AreClosedBelow, Grows, IsExchanged, IsListedAround, IsListedFor}
+use Rattle.bpf_races.specs.Private.Exchanging.{AreAllBy, HaveExchanges, HaveExchangesBelow, CoversBelow, Grows, IsExchanged, IsListedAround, IsListedFor}
 use Rattle.bpf_races.specs.Private.Exchanging.{IsListedFrom, in_order, pair_exchanged, spot_exchanged}
 use Rattle.bpf_races.specs.Private.Searching.{AddsRace, AreListedAt, Keeps}
 use Rattle.bpf_races.proofs.Listed.{listed_pushed, listed_still, once_pushed}
@@ -102,7 +102,7 @@ pair_back c d one other apart =
 abbrev spot_at : Pair → ℕ → Option (List ℕ) → Spot
 spot_at pair m key = record { pair = pair; map = m; key = key }
 
-module _ (peers : List Peer) (races : List RaceFound) (closed : AreClosed peers races) (m : ℕ) (key : Option (List ℕ)) where
+module _ (peers : List Peer) (races : List RaceFound) (closed : HaveExchanges peers races) (m : ℕ) (key : Option (List ℕ)) where
   -- so what is listed where exchanges lead, is listed
   came_back : (pairs : List (ℕ × ℕ)) → AreAllEqual peers pairs → (one other : Stand) → one.cpu ≢ other.cpu
       → IsListed races (spot_at (in_order (stand_after pairs one) (stand_after pairs other)) m key) → IsListed races (spot_at (in_order one other) m key)
@@ -131,7 +131,7 @@ turned_so z b one other race = turned z one other b race
 
 -- one that a kept machine has but for places is printed
 pub told_elsewhere : (peers : List Peer) (kept : List MachineState) (races : List RaceFound) (sync : List Part)
-    → ((i : ℕ) → AreListedAt kept races sync i) → AreClosed peers races
+    → ((i : ℕ) → AreListedAt kept races sync i) → HaveExchanges peers races
     → (z : World) (pair : Pair) (b : ℕ) → pair.one.cpu < pair.other.cpu → pair.one.cpu ≢ pair.other.cpu
     → IsRaceKeptElsewhere peers kept z pair.one pair.other b → IsTold races z.store pair b ⊎ IsLeftOut sync b
 told_elsewhere peers kept races sync listed closed z pair b order apart found =
@@ -204,6 +204,12 @@ pub grows_keeps : (peers : List Peer) (old new : List RaceFound) → Grows peers
 grows_keeps peers old new grows race among =
     let (more, is) = grows.longer in
     subst (λ (rs : List RaceFound). IsAmong rs race) (sym is) (front_among old more race among)
+
+pub grows_longer : (peers : List Peer) (old new : List RaceFound) → Grows peers old new → length old ≤ length new
+grows_longer peers old new grows =
+    let (more, is) = grows.longer in
+    let e : length new ≡ length old + length more = ap (λ (rs : List RaceFound). length rs) is ∙ length-append old more in
+    omega (arith, e)
 
 same_spot : (c d : ℕ) (old new : RaceFound) → IsExchanged c d old new → spot_of new ≡ spot_exchanged c d (spot_of old)
 same_spot c d old new is =
@@ -297,11 +303,11 @@ around_all peers races race n past far j k less one other group =
     far j k (omega (arith, past, inside)) less one other group
 
 -- ---- until each is
-pub none_closed : (peers : List Peer) (races : List RaceFound) → AreClosedBelow peers races 0
+pub none_closed : (peers : List Peer) (races : List RaceFound) → HaveExchangesBelow peers races 0
 none_closed peers races i j k race below at less = absurd (omega (arith, below))
 
 pub closed_on : (peers : List Peer) (old new : List RaceFound) (race : RaceFound) (n : ℕ) → n < length old → Grows peers old new
-    → slice_get old n ≡ Some race → AreClosedBelow peers old n → ((j k : ℕ) → j < k → IsListedFor peers new race j k) → AreClosedBelow peers new (n + 1)
+    → slice_get old n ≡ Some race → HaveExchangesBelow peers old n → ((j k : ℕ) → j < k → IsListedFor peers new race j k) → HaveExchangesBelow peers new (n + 1)
 closed_on peers old new race n inside grows at far here i j k this below there less =
     let (more, is) = grows.longer in
     let within : i < length old = omega (arith, inside, below) in
@@ -316,7 +322,85 @@ closed_on peers old new race n inside grows at far here i j k this below there l
           subst (λ (x : RaceFound). IsListedFor peers new x j k) same (here j k less)
     ]
 
-pub all_closed : (peers : List Peer) (races : List RaceFound) (n : ℕ) → length races ≤ n → AreClosedBelow peers races n → AreClosed peers races
+pub all_closed : (peers : List Peer) (races : List RaceFound) (n : ℕ) → length races ≤ n → HaveExchangesBelow peers races n → HaveExchanges peers races
 all_closed peers races n past far race (i, at) j k less =
     let inside = slice_get_within races i race at in
     far i j k race (omega (arith, past, inside)) at less
+
+-- ---- race by race
+-- one is listed, unless it is
+adds_keeps : (old new : List RaceFound) (race : RaceFound) → AddsRace old race new → Keeps old new
+adds_keeps old new race adds one among = elim adds [
+  | inl (listed, same) ↦ subst (λ (rs : List RaceFound). IsAmong rs one) (sym same) among
+  | inr (fresh, pushed) ↦ subst (λ (rs : List RaceFound). IsAmong rs one) (sym pushed) (front_among old (race ∷ []) one among)
+]
+
+adds_listed : (old new : List RaceFound) (race : RaceFound) → AddsRace old race new → IsListed new (spot_of race)
+adds_listed old new race adds = elim adds [
+  | inl (listed, same) ↦ subst (λ (rs : List RaceFound). IsListed rs (spot_of race)) (sym same) listed
+  | inr (fresh, pushed) ↦ listed_pushed old new race pushed
+]
+
+pub adds_within : (old new : List RaceFound) (race : RaceFound) → AddsRace old race new → length old ≤ length new
+adds_within old new race adds = elim adds [
+  | inl (listed, same) ↦ let e : length new ≡ length old = ap (λ (rs : List RaceFound). length rs) same in omega (arith, e)
+  | inr (fresh, pushed) ↦
+      let e : length new ≡ length old + 1 = ap (λ (rs : List RaceFound). length rs) pushed ∙ length-append old (race ∷ []) in
+      omega (arith, e)
+]
+
+pub adds_closed : (peers : List Peer) (old new : List RaceFound) (race : RaceFound) (n : ℕ) → n ≡ length old → AddsRace old race new
+    → HaveExchangesBelow peers old n → HaveExchangesBelow peers new n
+adds_closed peers old new race n all adds closed i j k this below there less =
+    for_still peers old new this j k (adds_keeps old new race adds) (closed i j k this below read less)
+  where
+    within : i < length old
+    within = omega (arith, all, below)
+
+    read : slice_get old i ≡ Some this
+    read = elim adds [
+      | inl (listed, same) ↦ ap (λ (rs : List RaceFound). slice_get rs i) (sym same) ∙ there
+      | inr (fresh, pushed) ↦
+          sym (slice_get-front old (race ∷ []) i within) ∙ (ap (λ (rs : List RaceFound). slice_get rs i) (sym pushed) ∙ there)
+    ]
+
+pub covers_none : (peers : List Peer) (found : List RaceFound) → CoversBelow peers found [] 0
+covers_none peers found = record {
+  listed = λ i race below at. absurd (omega (arith, below));
+  each = λ w sync stays all race (i, at). cc;
+  once = λ i j one two at. cc;
+}
+
+pub covers_on : (peers : List Peer) (found old mid new : List RaceFound) (race : RaceFound) (n : ℕ) → slice_get found n ≡ Some race
+    → AddsRace old race mid → Grows peers mid new → CoversBelow peers found old n → CoversBelow peers found new (n + 1)
+covers_on peers found old mid new race n here adds grows covers = record {
+  listed = λ i this below at. elim (cases_lt i n) [
+    | inl early ↦ listed_still mid new (spot_of this) keeps
+        (listed_still old mid (spot_of this) (adds_keeps old mid race adds) (covers.listed i this early at))
+    | inr past ↦
+        let e : n ≡ i = omega (arith, past, below) in
+        let two : Some race ≡ Some this = sym here ∙ (ap (slice_get found) e ∙ at) in
+        let same : race ≡ this = cc in
+        listed_still mid new (spot_of this) keeps (subst (λ (x : RaceFound). IsListed mid (spot_of x)) same (adds_listed old mid race adds))
+  ];
+  each = λ w sync stays all. grows.each w sync stays (by w sync all (covers.each w sync stays all));
+  once = grows.once once;
+}
+  where
+    keeps : Keeps mid new
+    keeps = grows_keeps peers mid new grows
+
+    by : (w : World) (sync : List Part) → AreAllBy w sync found → AreAllBy w sync old → AreAllBy w sync mid
+    by w sync all before = elim adds [
+      | inl (listed, same) ↦ subst (AreAllBy w sync) (sym same) before
+      | inr (fresh, pushed) ↦ subst (AreAllBy w sync) (sym pushed) (λ one there. elim (in_cases old race one there) [
+        | inl there ↦ before one there
+        | inr it ↦ subst (RacesBy w sync) (sym it) (all race (n, here))
+      ])
+    ]
+
+    once : AreOnce mid
+    once = elim adds [
+      | inl (listed, same) ↦ subst AreOnce (sym same) covers.once
+      | inr (fresh, pushed) ↦ subst AreOnce (sym pushed) (once_pushed old race covers.once fresh)
+    ]

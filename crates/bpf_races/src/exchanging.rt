@@ -1,9 +1,9 @@
 //! Races in which equal CPUs change places.
 
-ghost use Rattle.std.specs.Prelude.{◌≡◌, ◌<◌, IfOk, OnOk, length};
+ghost use Rattle.std.specs.Prelude.{◌≡◌, ◌<◌, ◌≤◌, IfOk, OnOk, length};
 ghost use Rattle.bpf_equal.specs.Races.{stand_exchanged};
 ghost use Rattle.bpf_races.specs.Touch.{IsAmong};
-ghost use Rattle.bpf_races.specs.Private.Exchanging.{AreClosed, Grows, IsExchanged, IsListedAround, IsListedFor, IsListedFrom, in_order, pair_exchanged};
+ghost use Rattle.bpf_races.specs.Private.Exchanging.{HaveExchanges, HaveExchangesBelow, CoversBelow, Grows, IsExchanged, IsListedAround, IsListedFor, IsListedFrom, in_order, pair_exchanged};
 
 use crate::found::{Pair, Race, add_race};
 use crate::gathering::with_way;
@@ -136,20 +136,47 @@ fn add_around(
     Ok(())
 }
 
-/// Lists each race with each two equal CPUs exchanged too, until nothing is new.
-pub(crate) fn exchange_races(
+/// Lists races from a place on with each two equal CPUs exchanged too, until nothing is new. How many
+/// are listed then.
+fn close_from(
     alloc: Global,
     peers: &[Peer],
+    first: usize,
     races: &mut Vec<Race>,
-) -> Result<(), AllocError>
-    ensures closed { OnOk result (AreClosed peers.now races.new.items) }
+) -> Result<usize, AllocError>
+    requires within { first ≤ length races.old.items }
+    requires closed { HaveExchangesBelow peers.now races.old.items first }
+    ensures all { IfOk result (λ n. n ≡ length races.new.items) }
+    ensures closed { IfOk result (HaveExchangesBelow peers.now races.new.items) }
     ensures grows { OnOk result (Grows peers.now races.old.items races.new.items) }
 {
-    let mut next = 0;
+    let mut next = first;
     while next < races.len() {
         let race = copy_race(alloc, &races[next])?;
         add_around(alloc, peers, &race, races)?;
         next += 1;
     }
-    Ok(())
+    Ok(next)
+}
+
+/// Races, each with each two equal CPUs exchanged too, until nothing is new. Those of a race are listed
+/// before the next one: so where several are one but for equal CPUs, their schedules are that of the
+/// first, as it is or exchanged.
+pub(crate) fn exchange_races(
+    alloc: Global,
+    peers: &[Peer],
+    found: &[Race],
+) -> Result<Vec<Race>, AllocError>
+    ensures closed { IfOk result (λ races. HaveExchanges peers.now races.items) }
+    ensures covers { IfOk result (λ races.
+        CoversBelow peers.now found.now races.items (length found.now)) }
+{
+    let mut races = Vec::new(alloc);
+    let mut next = 0;
+    for k in 0..found.len() {
+        let race = copy_race(alloc, &found[k])?;
+        add_race(&mut races, race)?;
+        next = close_from(alloc, peers, next, &mut races)?;
+    }
+    Ok(races)
 }

@@ -17,8 +17,8 @@ use crate::sync::Part;
 use bpf_alike::Merged;
 use bpf_cpu::Setup;
 use bpf_explore::{
-    Crew, Extent, Observer, PatientExplorer, PermutedExplorer, Scope, explore, patient_search_of,
-    permuted_search_of,
+    Crew, Extent, Observer, PatientExplorer, PermutedExplorer, Scope, explore,
+    permuted_patient_search_of, permuted_search_of,
 };
 use bpf_plain::copy_shape;
 use bpf_shared::StoreShape;
@@ -65,7 +65,7 @@ fn begin_patiently(
     ensures { IfOk result (λ r. BeginsAt r.1.kept (first_of setup)) }
 {
     let watcher = make_watcher(alloc, &setup.shape)?;
-    let explorer = patient_search_of(alloc, setup, merged)?;
+    let explorer = permuted_patient_search_of(alloc, setup, merged)?;
     Ok((watcher, explorer))
 }
 
@@ -89,8 +89,8 @@ fn conclude(
     let (mut found, peers) = explorer.into_parts();
     found.leads();
     found.apart();
-    let (mut list, listed) = gather_races(alloc, &mut found, watcher, sync)?;
-    exchange_races(alloc, &peers, &mut list)?;
+    let (races, listed) = gather_races(alloc, &mut found, watcher, sync)?;
+    let list = exchange_races(alloc, &peers, &races)?;
     let all = both(extent.is_whole(), listed);
     Ok(Races {
         list,
@@ -99,7 +99,8 @@ fn conclude(
     })
 }
 
-/// The races of the machines that a patient search keeps which came this far.
+/// The races of the machines that a patient search keeps which came this far, and those with equal CPUs
+/// exchanged.
 fn conclude_patiently(
     alloc: Global,
     explorer: &mut PatientExplorer,
@@ -109,13 +110,15 @@ fn conclude_patiently(
 ) -> Result<Races, AllocError>
     ensures { IfOk result (λ r. (w : World) (limit : ℕ) → FirstsFit w.programs
         → BeginsAt explorer.old.kept w
-        → CameTo Richly explorer.old.kept extent limit
+        → CameTo (Richly explorer.old.peers) explorer.old.kept extent limit
         → AreRaces true w sync.now r.list.items r.all r.refused limit) }
 {
-    bpf_alike::laws::alike_patient_races_are_kept();
-    bpf_alike::laws::alike_patient_sets_have_turns();
+    bpf_equal::laws::permuted_patient_races_are_kept();
+    bpf_equal::laws::permuted_patient_sets_have_turns();
     bpf_x86::laws::turning_race_free_is_same();
-    let (list, listed) = gather_races(alloc, explorer, watcher, sync)?;
+    let peers = explorer.copy_peers()?;
+    let (races, listed) = gather_races(alloc, explorer, watcher, sync)?;
+    let list = exchange_races(alloc, &peers, &races)?;
     let all = both(extent.is_whole(), listed);
     Ok(Races {
         list,
@@ -149,7 +152,8 @@ pub fn find_races<C: Crew, O: Observer>(
 }
 
 /// Searches likewise through what schedules lead to while no job runs out of budget: machines that
-/// differ only in how many steps are left of budgets count as one.
+/// differ only in how many steps are left of budgets count as one. Where states are merged, equal CPUs are
+/// exchanged as above.
 pub fn find_races_patiently<C: Crew, O: Observer>(
     alloc: Global,
     setup: Setup,

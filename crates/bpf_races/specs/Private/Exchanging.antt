@@ -47,13 +47,13 @@ IsListedAround peers races race below = (j k : ℕ) → j < below → j < k
     → IsListedFor peers races race j k
 
 -- so is each of the first n
-abbrev pub AreClosedBelow : List Peer → List RaceFound → ℕ → Type 0
-AreClosedBelow peers races n = (i j k : ℕ) (race : RaceFound) → i < n
+abbrev pub HaveExchangesBelow : List Peer → List RaceFound → ℕ → Type 0
+HaveExchangesBelow peers races n = (i j k : ℕ) (race : RaceFound) → i < n
     → slice_get races i ≡ Some race → j < k → IsListedFor peers races race j k
 
 -- and each
-abbrev pub AreClosed : List Peer → List RaceFound → Type 0
-AreClosed peers races = (race : RaceFound) → IsAmong races race → (j k : ℕ) → j < k
+abbrev pub HaveExchanges : List Peer → List RaceFound → Type 0
+HaveExchanges peers races = (race : RaceFound) → IsAmong races race → (j k : ℕ) → j < k
     → IsListedFor peers races race j k
 
 -- each is one by its own schedule
@@ -67,3 +67,12 @@ pub record Grows (peers : List Peer) (old new : List RaceFound) : Type 0 where
   pub each : (w : World) (sync : List Part) → StaysExchanged peers w → AreAllBy w sync old
       → AreAllBy w sync new
   pub once : AreOnce old → AreOnce new
+
+-- the first n races are listed among others, each of which is one by its own schedule if the former are,
+-- and none twice
+pub record CoversBelow (peers : List Peer) (found races : List RaceFound) (n : ℕ) : Type 0 where
+  pub listed : (i : ℕ) (race : RaceFound) → i < n → slice_get found i ≡ Some race
+      → IsListed races (spot_of race)
+  pub each : (w : World) (sync : List Part) → StaysExchanged peers w → AreAllBy w sync found
+      → AreAllBy w sync races
+  pub once : AreOnce races

@@ -1,12 +1,10 @@
-use Rattle.std.proofs.Common.{◌-◌, ◌^◌}
-use Rattle.bpf_races.specs.Private.Exchanging.{AreClosedBelow, Grows}
+use Rattle.std.proofs.Common.{◌≡◌, length}
+use Rattle.bpf_races.specs.Private.Exchanging.{HaveExchangesBelow, CoversBelow}
 use Rattle.bpf_races.proofs.exchanging.exchange_races.Given as goal
 
-abbrev pub invariant-loop-next : goal.invariant-loop-next
-invariant-loop-next l = record {
-  closed : AreClosedBelow l.peers l.races.items l.next;
-  grows : Grows l.peers l.fn.races.items l.races.items;
+abbrev pub invariant-loop-k : goal.invariant-loop-k
+invariant-loop-k l = record {
+  all : l.next ≡ length l.races.items;
+  closed : HaveExchangesBelow l.peers l.races.items l.next;
+  covers : CoversBelow l.peers l.found l.races.items l.k;
 }
-
-abbrev pub decreases-loop-next : goal.decreases-loop-next
-decreases-loop-next l = 2 ^ 64 - l.next

@@ -1,8 +1,10 @@
-use Rattle.std.proofs.Common.{◌≡◌, ◌∙◌, List, refl, sym, subst}
+use Rattle.std.proofs.Common.{◌≡◌, ◌∙◌, List, length, refl, sym, subst}
 use Rattle.bpf_equal.specs.declared.peers.Peer.{Peer}
 use Rattle.bpf_equal.specs.Races.{StaysExchanged}
 use Rattle.bpf_explore.specs.Album.{AlbumState, BeginsAt}
 use Rattle.bpf_explore.specs.Search.{CameTo, Permuted}
+use Rattle.bpf_races.specs.Races.{RaceFound}
+use Rattle.bpf_races.specs.Private.Exchanging.{AreAllBy, CoversBelow}
 use Rattle.bpf_races.proofs.Searching.{all_by, are_races, still_listed}
 use Rattle.bpf_races.proofs.search.conclude.Goals as goal
 
@@ -19,12 +21,15 @@ returns c w limit fits begins came =
     let stays = subst (λ (ps : List Peer). StaysExchanged ps w) (sym are) (parts.stays w begins) in
     let came_so = subst (λ (ps : List Peer). CameTo (Permuted ps) found.kept extent limit) (sym are)
     (subst (λ (a : AlbumState). CameTo (Permuted own.peers) a.kept extent limit) (sym parts.found) came) in
-    let listed = c.in_ok-list.ensures in
-    let old = c.in_ok-list.list.items in
-    let new = c.exchange_races.new.races.items in
-    let grows = c.in_ok-exchange_races.ensures.grows in
-    are_races found.kept w sync new extent limit c.is_whole.result c.is_refused.result c.in_ok-list.listed c.both-all.result fits first
-    (grows.each w sync stays (all_by found.kept sync old w listed.gathered first)) (grows.once listed.gathered.once)
-    (λ is. still_listed peers found.kept sync old new grows (listed.listed is)) c.both-all.ensures.both c.is_whole.ensures c.is_refused.ensures
+    let listed = c.in_ok-races.ensures in
+    let old = c.in_ok-races.races.items in
+    let handed = c.deref-2.ensures.value in
+    let all = subst (λ (rs : List RaceFound). AreAllBy w sync rs) (sym handed) (all_by found.kept sync old w listed.gathered first) in
+    let new = c.in_ok-list.list.items in
+    let covers = c.in_ok-list.ensures.covers in
+    are_races found.kept w sync new extent limit c.is_whole.result c.is_refused.result c.in_ok-races.listed c.both-all.result fits first
+    (covers.each w sync stays all) covers.once (λ is. still_listed peers found.kept sync old new
+    (subst (λ (rs : List RaceFound). CoversBelow peers rs new (length rs)) handed covers) (listed.listed is)) c.both-all.ensures.both
+    c.is_whole.ensures c.is_refused.ensures
     c.permuted_races_are_kept.ensures c.permuted_sets_have_turns.ensures c.turning_race_free_is_same.ensures peers
-    c.in_ok-exchange_races.ensures.closed came_so c.leads.ensures c.apart.ensures (listed.exact refl) c.both-all.ensures.not
+    c.in_ok-list.ensures.closed came_so c.leads.ensures c.apart.ensures (listed.exact refl) c.both-all.ensures.not
