@@ -3,7 +3,7 @@ _ebpf() {
     local word=${COMP_WORDS[COMP_CWORD]} before=${COMP_WORDS[COMP_CWORD - 1]} words files
     COMPREPLY=()
     case $before in
-        --budget|--by|--ctx|--into|--limit|--parts|--show|--sync|--workers) return ;;
+        --budget|--by|--ctx|--into|--limit|--parts|--seen|--show|--sync|--workers) return ;;
     esac
     case ${COMP_CWORD}:${COMP_WORDS[1]} in
         1:*) words='hex asm disasm run explore check expand debug explain -h --help -V --version' ;;
@@ -16,7 +16,7 @@ _ebpf() {
         run) words='--explain --keys --maps --events --packets --check --by --workers --stats --x86 --json -h --help' files=1 ;;
         explore) words='--explain --patient --json --progress --x86 --all-states --workers --races --sync --limit --show -h --help' files=1 ;;
         check) words='--explain --patient --json --progress --x86 --all-states --workers --lenient --states --limit -h --help' files=1 ;;
-        expand) words='--explain --first --patient --x86 --races --into --parts -h --help' files=1 ;;
+        expand) words='--explain --first --patient --x86 --races --into --parts --seen -h --help' files=1 ;;
         debug) words='--explain --echo --strict --x86 -h --help' files=1 ;;
         explain) words='-h --help' ;;
     esac

@@ -72,6 +72,7 @@ complete -c ebpf -n '__fish_seen_subcommand_from expand' -l x86 -f -d 'Takes sta
 complete -c ebpf -n '__fish_seen_subcommand_from expand' -l races -f -d 'Prints the data races of each state before what it leads to'
 complete -c ebpf -n '__fish_seen_subcommand_from expand' -l into -x -d 'Writes new states into files of this folder, and reads those of STATES'
 complete -c ebpf -n '__fish_seen_subcommand_from expand' -l parts -x -d 'With --into: writes N files, 1 to 1024, by a hash of each state'
+complete -c ebpf -n '__fish_seen_subcommand_from expand' -l seen -x -d 'With --into: a file of states that are known too; may be given several times'
 complete -c ebpf -n '__fish_seen_subcommand_from expand' -s h -l help -f -d 'Print help'
 complete -c ebpf -n '__fish_seen_subcommand_from expand' -F
 complete -c ebpf -n '__fish_seen_subcommand_from debug' -l explain -f -d 'Explains a refusal of the file on standard error, and answers to commands that are in it'

@@ -6,7 +6,7 @@ use Rattle.clap.specs.Faults.{level_fault}
 use Rattle.clap.specs.Walk.{with_default, values_or_missing, Held, Row, Rule, Text, answers_to, finished, has_row, nothing_held, rows_after, settled, walk}
 use Rattle.clap.specs.Words.{fault_of, subcommand_of}
 use Rattle.bpf_command.specs.declared.command.TheConstants.{MAX_PARTS}
-use Rattle.bpf_command.specs.CommandLine.{HasParts, ebpf, expand, explained, file, first, into, parts, patient, races, state_files, x86}
+use Rattle.bpf_command.specs.CommandLine.{HasParts, ebpf, expand, explained, file, first, into, parts, patient, races, seen, state_files, x86}
 use Rattle.bpf_command.proofs.Counted.{counted_keeps, has_count}
 use Rattle.bpf_command.proofs.Ranges as range
 use Rattle.bpf_command.proofs.Ranges.{no_default}
@@ -53,6 +53,10 @@ into_keeps : Keeps AreFine false (filled into)
 into_keeps values rows e fine =
     range.other_used_fine (codes "parts") 1 MAX_PARTS (codes "into") (values_or_missing (filled into) values) rows refl fine
 
+seen_keeps : Keeps AreFine false (filled seen)
+seen_keeps values rows e fine =
+    range.more_used_fine (codes "parts") 1 MAX_PARTS (codes "seen") (values_or_missing (filled seen) values) rows refl fine
+
 file_keeps : Keeps AreFine false (filled file)
 file_keeps values rows e fine =
     range.other_used_fine (codes "parts") 1 MAX_PARTS (codes "file") (values_or_missing (filled file) values) rows refl fine
@@ -74,7 +78,7 @@ rules_keep = (
           races_keep,
           (
             into_keeps,
-            (parts_keep, (file_keeps, (states_keep, ((λ values rows e fine. fine), tt)))),
+            (parts_keep, (seen_keeps, (file_keeps, (states_keep, ((λ values rows e fine. fine), tt))))),
           ),
         ),
       ),
@@ -94,7 +98,8 @@ finished_parts h fine =
     let asked = with_default buffered (filled races) in
     let named = with_default asked (filled into) in
     let counted = with_default named (filled parts) in
-    let filed = with_default counted (filled file) in
+    let known = with_default counted (filled seen) in
+    let filed = with_default known (filled file) in
     let last = with_default filed (filled state_files) in
     let started = range.default_fine (codes "parts") 1 MAX_PARTS (codes "explain") (codes "false" ∷ []) (settled rules h).rows refl fine in
     let begins = range.default_fine (codes "parts") 1 MAX_PARTS (codes "first") (codes "false" ∷ []) start refl started in
@@ -103,8 +108,8 @@ finished_parts h fine =
     let all = range.default_fine (codes "parts") 1 MAX_PARTS (codes "races") (codes "false" ∷ []) buffered refl flushed in
     let same =
     no_default (has_row (codes "help") last) last ∙ (no_default (has_row (codes "states") filed) filed
-    ∙ (no_default (has_row (codes "file") counted) counted ∙ (no_default (has_row (codes "parts") named) named
-    ∙ no_default (has_row (codes "into") asked) asked)))
+    ∙ (no_default (has_row (codes "file") known) known ∙ (no_default (has_row (codes "seen") counted) counted
+    ∙ (no_default (has_row (codes "parts") named) named ∙ no_default (has_row (codes "into") asked) asked))))
     in
     subst HasParts (sym same) (has_count (codes "parts") MAX_PARTS asked all)
 

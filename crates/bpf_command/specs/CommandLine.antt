@@ -219,12 +219,20 @@ into = record (new_rule (codes "into")) { long = Some (codes "into"); value_name
 abbrev pub parts : Rule
 parts = counted (codes "parts") MAX_PARTS
 
+-- `--seen FILE`, which may be several times
+abbrev pub seen : Rule
+seen = record (new_rule (codes "seen")) {
+  long = Some (codes "seen");
+  value_names = 1;
+  action = Some Append;
+}
+
 -- `STATES..`
 abbrev pub state_files : Rule
 state_files = record (new_rule (codes "states")) { value_names = 1; action = Some Append }
 
 abbrev pub expand_files : App
-expand_files = with_rule (with_rule (with_rule expand_options races) into) parts
+expand_files = with_rule (with_rule (with_rule (with_rule expand_options races) into) parts) seen
 
 abbrev pub expand : App
 expand = with_rule (with_rule expand_files file) state_files
@@ -419,8 +427,8 @@ wants_no_flushes rows =
 
 -- files of states are asked for
 abbrev pub wants_files : List Row → Bool
-wants_files rows = is_given (codes "into") rows
-    || (is_given (codes "parts") rows || is_given (codes "states") rows)
+wants_files rows = (is_given (codes "into") rows || is_given (codes "parts") rows)
+    || (is_given (codes "seen") rows || is_given (codes "states") rows)
 
 -- what isn't done of files of states is asked for
 abbrev pub wants_lines : List Row → Bool

@@ -98,6 +98,7 @@ NamesSpread rows options = (options.patient ≡ is_given (codes "patient") rows)
     × (first_of (codes "into") rows ≡ Some (string_bytes options.folder))
     × NamesParts rows (Some options.parts)
     × (map string_bytes options.states.items ≡ given_texts (codes "states") rows)
+    × (map string_bytes options.seen.items ≡ given_texts (codes "seen") rows)
 
 -- the command that `clap` finds in the words: a subcommand's name, and what is found of its options
 abbrev pub Names : Option (Text × List Row) → Command → Type 0

@@ -140,6 +140,8 @@ pub struct SpreadOptions {
     pub parts: u16,
     /// The files that are read; where none is named, the first state is.
     pub states: Vec<String>,
+    /// The files of other states that are known.
+    pub seen: Vec<String>,
     ghost some: { 0 < parts },
 }
 

@@ -458,7 +458,8 @@ fn parts_of(options: &ArgMatches) -> Option<u16>
 fn wants_files(options: &ArgMatches) -> bool
     ensures { result ≡ wants_files (rows_of (found_of options.now)) }
 {
-    is_given(options, "into") || is_given(options, "parts") || is_given(options, "states")
+    let written = is_given(options, "into") || is_given(options, "parts");
+    written || is_given(options, "seen") || is_given(options, "states")
 }
 
 /// Whether what isn't done of files of states is asked for.
@@ -502,12 +503,14 @@ fn spread_of(alloc: Global, options: &ArgMatches) -> Result<Request, CommandErro
         return Err(CommandError::NoFiles);
     };
     let states = given_texts(alloc, options, "states")?;
+    let seen = given_texts(alloc, options, "seen")?;
     let is_patient = is_given(options, "patient");
     let spread = SpreadOptions {
         patient: is_patient,
         folder,
         parts,
         states,
+        seen,
     };
     Ok(Request::Spread {
         spread,

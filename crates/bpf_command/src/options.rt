@@ -3,7 +3,7 @@
 ghost use Rattle.std.specs.Prelude.{◌≡◌, false, IfOk};
 ghost use Rattle.clap.specs.Words.{app_of, rule_of, shape_of};
 ghost use Rattle.clap.specs.declared.builder.command.Command.TheViews.{out-Command as fields_of};
-ghost use Rattle.bpf_command.specs.CommandLine.{all_states, asm, asm_shows, bare, budget, check, code_rule, context, debug, debug_options, disasm, ebpf, echo, events, expand, expand_files, expand_options, explain, explained, explore, explore_options, file, files, first, for_files, hex, hex_options, into, judged, json, keys, lenient, limit, listing, maps, one_program, packets, parts, patient, pc, progress, races, run, run_lists, run_options, run_shows, runs, schedule, searching, show, state_files, states, stats, strict, sync, workers, working, x86};
+ghost use Rattle.bpf_command.specs.CommandLine.{all_states, asm, asm_shows, bare, budget, check, code_rule, context, debug, debug_options, disasm, ebpf, echo, events, expand, expand_files, expand_options, explain, explained, explore, explore_options, file, files, first, for_files, hex, hex_options, into, judged, json, keys, lenient, limit, listing, maps, one_program, packets, parts, patient, pc, progress, races, run, run_lists, run_options, run_shows, runs, schedule, searching, seen, show, state_files, states, stats, strict, sync, workers, working, x86};
 
 use crate::command::{MAX_LIMIT, MAX_PARTS, MAX_WORKERS};
 use bpf_base::MAX_BUDGET;
@@ -133,7 +133,7 @@ With --show K all that happens is printed as by 'run --x86 --events'. --x86 goes
 
 A state isn't kept that differs from a kept one only in registers which are written before they are
 read; nor, in a file without hash maps, one that differs in which of equal CPUs is how far, unless with
---patient or --x86. With --all-states both are: what is found is the same, of more states.
+--x86. With --all-states both are: what is found is the same, of more states.
 
 Where many states are left, their turns are made on as many threads as there are processors, 16 at most,
 or on those of --workers. What is printed is the same, byte for byte, for any number of them, unless
@@ -238,11 +238,14 @@ work nothing waits. There is no --races with it.
 
 With --into states are in files: of each, four bytes, the lowest first, say how many bytes it has, and
 these follow. What the CPUs' turns lead to from the states of STATES, or from the first state where no
-file is named, is written to files 0 to N-1 of FOLDER, but for states that were read: each state once,
-by a hash of its bytes, so that it has the same number in each call of the same N. FOLDER has to be
-there, and no file is written over. Then the reports are printed, each once, and 'N states, M new'. A
-file that can't be read or made is refused by 'refused L7 - NAME', one that has more than 16,777,216
-bytes by L10, one whose end is cut off by 'refused X1 - NAME', and what is no state by
+file is named, is written to files 0 to N-1 of FOLDER, each state once, by a hash of its bytes, so that
+it has the same number in each call of the same N. States that were read are left out, and so are those
+of the files of --seen. For each state of file K, in order, file K.from has three numbers of eight bytes,
+the lowest first: how many states were read before the one that leads to it, the CPU, and how many turns
+the CPU makes after its first. FOLDER has to be there, and no file is written over. Then each report is
+printed once, 'report HEX of S', where S states were read before the first that has it, and at the end
+'N states, M new'. A file that can't be read or made is refused by 'refused L7 - NAME', one that has more
+than 16,777,216 bytes by L10, one whose end is cut off by 'refused X1 - NAME', and what is no state by
 'refused X1 NUMBER - NAME', NUMBER counted from 1. What was written before a refusal stays.
 
 For example
@@ -901,6 +904,18 @@ fn parts_option<'a>(alloc: Global) -> Arg<'a>
         .help("With --into: writes N files, 1 to 1024, by a hash of each state")
 }
 
+/// The option `--seen`.
+fn seen_option<'a>(alloc: Global) -> Arg<'a>
+    ensures rule { rule_of result ≡ seen }
+    ensures own { result.global ≡ false }
+{
+    Arg::new(alloc, "seen")
+        .long("seen")
+        .value_name("FILE")
+        .action(ArgAction::Append)
+        .help("With --into: a file of states that are known too; may be given several times")
+}
+
 /// The files of states that `expand` reads.
 fn states_argument<'a>(alloc: Global) -> Arg<'a>
     ensures rule { rule_of result ≡ state_files }
@@ -920,7 +935,8 @@ fn expand_files<'a>(alloc: Global) -> Result<Command<'a>, AllocError>
     expand_options(alloc)?
         .arg(state_races_option(alloc))?
         .arg(into_option(alloc))?
-        .arg(parts_option(alloc))
+        .arg(parts_option(alloc))?
+        .arg(seen_option(alloc))
 }
 
 fn expand_command<'a>(alloc: Global) -> Result<Command<'a>, AllocError>

@@ -1,10 +1,11 @@
 -- States that calls read and find are closed.
 use Rattle.std.proofs.Common.{◌≡◌, ◌∙◌, ◌⊎◌, inl, inr, ◌+◌, ◌<◌, ◌≤◌, ◌++◌, ◌∷◌, ◌||◌, [], List, ℕ, zero, suc, Bool, true, false}
 use Rattle.std.proofs.Common.{true≢false, if◌then◌else◌, Some}
-use Rattle.std.proofs.Common.{drop, length, length-append, option_map, refl, slice_get, sym, ap, subst, arith}
+use Rattle.std.proofs.Common.{drop, length, length-append, map, option_map, refl, slice_get, sym, ap, subst, arith}
 use Rattle.std.specs.List.{list_any}
 use Rattle.std.specs.Str.{bytes_eq}
 use Rattle.std.proofs.lemmas.Bool.{cases_eq, cases_lt}
+use Rattle.std.proofs.lemmas.List.Sums.{fold-append}
 use Rattle.std.proofs.lemmas.Option.{slice_get-map, slice_get_within}
 use Rattle.std.proofs.lemmas.Slice.Eq.{bytes_eq-Decides}
 use Rattle.bpf_names.specs.Names.{Names}
@@ -123,6 +124,15 @@ all_same : (xs ys : List (List ℕ)) (i : ℕ) → i < length xs → slice_get (
 all_same xs [] i less = refl
 all_same xs (y ∷ ys) i less = all_same (put xs y) ys i (omega (arith, put_length xs y)) ∙ put_same xs y i less
 
+-- what is among both is among one
+one_of_both : (xs ys : List (List ℕ)) (x : List ℕ) (i : ℕ) → slice_get (xs ++ ys) i ≡ Some x → IsAmong xs x ⊎ IsAmong ys x
+one_of_both [] ys x i at = inr (i, at)
+one_of_both (z ∷ xs) ys x zero at = inl (0, at)
+one_of_both (z ∷ xs) ys x (suc i) at = elim (one_of_both xs ys x i at) [
+  | inl among ↦ inl (suc among.0, among.1)
+  | inr there ↦ inr there
+]
+
 -- what is led to was read, or is new
 read_or_new : (read led : List (List ℕ)) (x : List ℕ) → IsAmong led x → IsAmong read x ⊎ IsAmong (fresh read led) x
 read_or_new read led x (i, at) = by (all_have (put_all [] read) led i x at)
@@ -141,6 +151,15 @@ read_or_new read led x (i, at) = by (all_have (put_all [] read) led i x at)
 
     by : IsAmong (put_all (put_all [] read) led) x → IsAmong read x ⊎ IsAmong (fresh read led) x
     by (j, there) = placed j there (cases_lt j (length (put_all [] read)))
+
+-- what is known at first, of those that were read and others
+pub base_is : {A : Type 0} (f : A → List ℕ) (none one both : List (List ℕ)) (first second reads seens : List A) → none ≡ [] → first ≡ reads
+    → second ≡ seens → one ≡ put_all none (map f first) → both ≡ put_all one (map f second) → both ≡ put_all [] (map f reads ++ map f seens)
+base_is f none one both first second reads seens empty read known some all =
+    let begun : one ≡ put_all [] (map f reads) =
+    some ∙ (ap (λ (l : List (List ℕ)). put_all l (map f first)) empty ∙ ap (λ (l : List _). put_all [] (map f l)) read) in
+    all ∙ (ap (λ (l : List _). put_all one (map f l)) known ∙ (ap (λ (l : List (List ℕ)). put_all l (map f seens)) begun
+    ∙ sym (fold-append put [] (map f reads) (map f seens))))
 
 -- what is left of the known states, after those that were read
 pub fresh_is : (read led base known : List (List ℕ)) (first : ℕ) → base ≡ put_all [] read → first ≡ length base → known ≡ put_all base led
@@ -225,21 +244,26 @@ module _ (h : Host) (names : Names) where
     unfolding FoundOf Goes
     closed_at bytes c among = of (called bytes among)
       where
-        of : (read new ends : List (List ℕ)) × IsCall h names read new ends × IsAmong read bytes
-            × ((b : List ℕ) → IsAmong read b → IsAmong states b) × ((b : List ℕ) → IsAmong new b → IsAmong states b)
+        of : (read seen new ends : List (List ℕ)) × IsCall h names read seen new ends × IsAmong read bytes
+            × ((b : List ℕ) → IsAmong read b → IsAmong states b) × ((b : List ℕ) → IsAmong seen b → IsAmong states b)
+            × ((b : List ℕ) → IsAmong new b → IsAmong states b)
             → IsIdleIn h bytes c ⊎ ((n : ℕ) × (next : List ℕ) × IsSuccessor h bytes c n next × IsAmong states next)
-        of (read, new, ends, call, (i, at), reads, news) = by (goes bytes one.0 one.1 one.2 c)
+        of (read, seen, new, ends, call, (i, at), reads, seens, news) = by (goes bytes one.0 one.1 one.2 c)
           where
             one : FoundOf bytes call.led
             one = found_one read (length read) call.led call.all call.found i bytes (slice_get_within read i bytes at) at
 
-            kept : (x : List ℕ) → IsAmong read x ⊎ IsAmong (fresh read call.led) x → IsAmong states x
-            kept x (inl there) = reads x there
+            known : (x : List ℕ) → IsAmong read x ⊎ IsAmong seen x → IsAmong states x
+            known x (inl there) = reads x there
+            known x (inr there) = seens x there
+
+            kept : (x : List ℕ) → IsAmong (read ++ seen) x ⊎ IsAmong (fresh (read ++ seen) call.led) x → IsAmong states x
+            kept x (inl (j, there)) = known x (one_of_both read seen x j there)
             kept x (inr there) = news x (subst (λ (l : List (List ℕ)). IsAmong l x) (sym call.new_is) there)
 
             by : Goes bytes one.0 c → IsIdleIn h bytes c ⊎ ((n : ℕ) × (next : List ℕ) × IsSuccessor h bytes c n next × IsAmong states next)
             by (inl idle) = inl idle
-            by (inr (n, next, is, there)) = inr (n, next, is, kept next (read_or_new read call.led next (one.3 next there)))
+            by (inr (n, next, is, there)) = inr (n, next, is, kept next (read_or_new (read ++ seen) call.led next (one.3 next there)))
 
 pub calls_close : CallsClose
 calls_close h names states called = closed_at h names states called

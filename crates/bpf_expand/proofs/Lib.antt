@@ -9,4 +9,5 @@ pub mod Answered
 pub mod Fitting
 pub mod DigitLemmas
 pub mod PartLemmas
+pub mod Tracing
 pub mod Calling

@@ -136,12 +136,12 @@ put_more f start all n one at =
     ∙ fold-append put start (map f (take n all)) (f one ∷ []))
 
 -- ---- parts
-get_set_same : {A : Type 0} (xs : List A) (i : ℕ) (y : A) → i < length xs → slice_get (set xs i y) i ≡ Some y
+pub get_set_same : {A : Type 0} (xs : List A) (i : ℕ) (y : A) → i < length xs → slice_get (set xs i y) i ≡ Some y
 get_set_same [] i y within = absurd (omega arith)
 get_set_same (x ∷ xs) zero y within = refl
 get_set_same (x ∷ xs) (suc i) y within = get_set_same xs i y (omega arith)
 
-get_set_other : {A : Type 0} (xs : List A) (i k : ℕ) (y : A) → (k ≡ i → ⊥) → slice_get (set xs i y) k ≡ slice_get xs k
+pub get_set_other : {A : Type 0} (xs : List A) (i k : ℕ) (y : A) → (k ≡ i → ⊥) → slice_get (set xs i y) k ≡ slice_get xs k
 get_set_other [] i k y other = refl
 get_set_other (x ∷ xs) zero zero y other = absurd (other refl)
 get_set_other (x ∷ xs) zero (suc k) y other = refl
@@ -154,7 +154,7 @@ get_replicate (suc n) zero within = refl
 get_replicate (suc n) (suc k) within = get_replicate n k (omega arith)
 
 -- one more state is in its own part, and in no other
-one_in : (n k : ℕ) (states : List (List ℕ)) (state : List ℕ) (b : Bool) → (part_of n state == k) ≡ b
+pub one_in : (n k : ℕ) (states : List (List ℕ)) (state : List ℕ) (b : Bool) → (part_of n state == k) ≡ b
     → in_part n k (states ++ state ∷ []) ≡ in_part n k states ++ cond b (state ∷ []) []
 one_in n k states state b is =
     filter-append (λ bytes. part_of n bytes == k) states (state ∷ [])

@@ -55,11 +55,13 @@ PatientStatesCover =
     → (machines : List MachineState) × AreOf h states machines × IsCoveredRichly machines z
     × (HaveEnded z.jobs → IsShown machines z)
 
--- each of some states was read by a call of which all are among them, those that it read and the new ones
+-- each of some states was read by a call of which all are among them: those that it read, those that it
+-- knew beside them, and the new ones
 abbrev pub AreCalled : Host → Names → List (List ℕ) → Type 0
 AreCalled h names states = (bytes : List ℕ) → IsAmong states bytes
-    → (read new ends : List (List ℕ)) × IsCall h names read new ends × IsAmong read bytes
+    → (read seen new ends : List (List ℕ)) × IsCall h names read seen new ends × IsAmong read bytes
     × ((b : List ℕ) → IsAmong read b → IsAmong states b)
+    × ((b : List ℕ) → IsAmong seen b → IsAmong states b)
     × ((b : List ℕ) → IsAmong new b → IsAmong states b)
 
 -- then what each CPU's turn leads to from each of them is among them

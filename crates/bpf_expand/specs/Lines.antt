@@ -31,6 +31,11 @@ successor_lines (suc n) found = successor_lines n found ++ line_of (slice_get fo
 abbrev pub report_line : List ℕ → List ℕ
 report_line report = codes "report " ++ (encode_lower report ++ codes "\n")
 
+-- with the number of a state that has it
+abbrev pub end_line : List ℕ → ℕ → List ℕ
+end_line report number =
+    codes "report " ++ (encode_lower report ++ (codes " of " ++ (decimal number ++ codes "\n")))
+
 -- the line of this number, counted from 1, is no state
 abbrev pub no_state_line : ℕ → List ℕ
 no_state_line n =

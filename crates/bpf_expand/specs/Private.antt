@@ -2,3 +2,4 @@ pub mod Home
 pub mod Next
 pub mod Digits
 pub mod Races
+pub mod Traced

@@ -1,7 +1,7 @@
 //! What is printed of the states that a state leads to, or of an end.
 
 ghost use Rattle.std.specs.Prelude.{◌≡◌, ◌++◌, IfOk, OnOk, length, string_bytes};
-ghost use Rattle.bpf_expand.specs.Lines.{by_text, no_state_line, report_line, state_line, successor_line, successor_lines};
+ghost use Rattle.bpf_expand.specs.Lines.{by_text, end_line, no_state_line, report_line, state_line, successor_line, successor_lines};
 
 use crate::successor::Successor;
 use bpf_codes::Code;
@@ -68,17 +68,22 @@ pub(crate) fn state_line(alloc: Global, bytes: &[u8]) -> Result<String, AllocErr
 pub(crate) fn report_line(alloc: Global, report: &str) -> Result<String, AllocError>
     ensures { IfOk result (λ text. string_bytes text ≡ report_line report.now) }
 {
-    end_line(alloc, report.as_bytes())
+    let mut text = "report ".to_string(alloc)?;
+    let digits = to_hex(alloc, report.as_bytes())?;
+    text.push_str(digits.as_str())?;
+    text.push_str("\n")?;
+    Ok(text)
 }
 
-/// The line of the bytes of what is printed of an end.
-pub(crate) fn end_line(alloc: Global, report: &[u8]) -> Result<String, AllocError>
-    ensures { IfOk result (λ text. string_bytes text ≡ report_line report.now) }
+/// The line of the bytes of what is printed of an end, with the number of a state that has it.
+pub(crate) fn end_line(alloc: Global, report: &[u8], number: u64) -> Result<String, AllocError>
+    ensures { IfOk result (λ text. string_bytes text ≡ end_line report.now number) }
 {
     let mut text = "report ".to_string(alloc)?;
     let digits = to_hex(alloc, report)?;
     text.push_str(digits.as_str())?;
-    text.push_str("\n")?;
+    let of = format!(in alloc; " of {number}\n")?;
+    text.push_str(of.as_str())?;
     Ok(text)
 }
 

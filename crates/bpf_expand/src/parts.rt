@@ -13,6 +13,8 @@ use std::alloc::{AllocError, Global};
 pub struct Parted {
     /// The new states, by a hash of each, as they are in files.
     pub parts: Vec<Vec<u8>>,
+    /// What each was found by, in the same parts and order.
+    pub origins: Vec<Vec<u8>>,
     /// What is printed: reports of states where no CPU has work, and how many states there are.
     pub text: String,
 }
@@ -27,7 +29,7 @@ fn hash_of(bytes: &[u8]) -> u64
 }
 
 /// The part of a state among n.
-fn part_of(count: usize, bytes: &[u8]) -> usize
+pub(crate) fn part_of(count: usize, bytes: &[u8]) -> usize
     requires { 0 < count }
     ensures within { result < count }
     ensures part { result ≡ part_of count bytes.now }
@@ -36,7 +38,7 @@ fn part_of(count: usize, bytes: &[u8]) -> usize
 }
 
 /// Parts of which each is empty.
-fn empty_parts(alloc: Global, count: usize) -> Result<Vec<Vec<u8>>, AllocError>
+pub(crate) fn empty_parts(alloc: Global, count: usize) -> Result<Vec<Vec<u8>>, AllocError>
     ensures { IfOk result (λ parts. map (λ v. v.items) parts.items ≡ replicate count []) }
 {
     let mut parts = Vec::with_capacity(alloc, count)?;

@@ -23,7 +23,7 @@ impl Model for States {
 }
 
 impl States {
-    ghost use Rattle.std.specs.Prelude.{◌≡◌, ◌≤◌, [], IfSome, OnOk, OnErr, drop, length, map};
+    ghost use Rattle.std.specs.Prelude.{◌≡◌, ◌≤◌, ◌++◌, ◌∷◌, [], IfOk, IfSome, OnOk, OnErr, false, true, drop, length, map};
     ghost use Rattle.bpf_expand.specs.Parts.{put, put_all};
 
     /// None.
@@ -52,6 +52,17 @@ impl States {
             return Err(AllocError);
         };
         Ok(())
+    }
+
+    /// Puts a state in the same way, and says whether it is new.
+    pub fn put_new(&mut self, bytes: &[u8]) -> Result<bool, AllocError>
+        ensures ok { OnOk result (self.new ≡ put self.old bytes.now) }
+        ensures new { IfOk result (λ is. is ≡ true → self.new ≡ self.old ++ bytes.now ∷ []) }
+        ensures known { IfOk result (λ is. is ≡ false → self.new ≡ self.old) }
+    {
+        let before = self.count();
+        self.put(bytes)?;
+        Ok(before < self.count())
     }
 
     /// Puts each of some states.

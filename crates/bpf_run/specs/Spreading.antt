@@ -40,15 +40,22 @@ ReadsStates patient f files names states = (m : MachineState)
     × Shows m (first_world (shape_of f) f.pairs f.programs f.jobs)
     × ReadsAt (host_in patient f) m files names states
 
+-- of all files of these names
+abbrev pub AreAllRead : (files : Text → Option (List ℕ)) → List Text → List (List ℕ) → Type 0
+AreAllRead files names states = AreRead files names (length names) states
+
 -- ---- what is written
--- the file of a part, by its number
+-- the file of a part, by its number, and the one of its states' origins
 abbrev pub part_name : Text → ℕ → Text
 part_name folder part = folder ++ (codes "/" ++ decimal part)
 
+abbrev pub origins_name : Text → ℕ → Text
+origins_name folder part = folder ++ (codes "/" ++ (decimal part ++ codes ".from"))
+
 -- each part was written to its file, which was made for it
-abbrev pub AreMade : (has_made : Text → List ℕ → Type 0) → Text → List (List ℕ) → Type 0
-AreMade has_made folder parts = (k : ℕ) (part : List ℕ) → slice_get parts k ≡ Some part
-    → has_made (part_name folder k) part
+abbrev pub AreMade : (has_made : Text → List ℕ → Type 0) → (ℕ → Text) → List (List ℕ) → Type 0
+AreMade has_made name parts = (k : ℕ) (part : List ℕ) → slice_get parts k ≡ Some part
+    → has_made (name k) part
 
 -- ---- what is printed
 -- these bytes are a run file's, its states' parts were all written, and then this is printed
@@ -57,9 +64,12 @@ abbrev pub IsSpreadOf : (has_made : Text → List ℕ → Type 0) → (files : T
 IsSpreadOf has_made files options input text = (f : File)
     × IfSome input (λ bytes. IsRunFile bytes (Ok f)) × (read : List (List ℕ))
     × ReadsStates options.patient f files (map string_bytes options.states.items) read
+    × (seen : List (List ℕ)) × AreAllRead files (map string_bytes options.seen.items) seen
     × (made : Parted)
-    × IsParted (host_in options.patient f) f.names options.parts read made
-    × AreMade has_made (string_bytes options.folder) (map (λ v. v.items) made.parts.items)
+    × IsParted (host_in options.patient f) f.names options.parts read seen made
+    × AreMade has_made (part_name (string_bytes options.folder)) (map (λ v. v.items) made.parts.items)
+    × AreMade has_made (origins_name (string_bytes options.folder))
+    (map (λ v. v.items) made.origins.items)
     × (text ≡ string_bytes made.text)
 
 -- a refusal

@@ -137,7 +137,7 @@ const NO_RACES: &str = "\
 For more information, try 'ebpf explore --help'.";
 
 const NO_FILES: &str = "\
-'--into', '--parts' and STATES go together, STATES may be left out,
+'--into', '--parts', '--seen' and STATES go together, '--seen' and STATES may be left out,
 and they go with none of '--first', '--x86', '--races' and '--explain'
 
 For more information, try 'ebpf expand --help'.";

@@ -10,11 +10,11 @@ ghost use Rattle.bpf_expand.specs.Parts.{IsParted, records_of};
 ghost use Rattle.bpf_expand.specs.State.{IsStateOf};
 ghost use Rattle.bpf_replies.specs.Answer.{Prints};
 ghost use Rattle.bpf_run.specs.Program.{input_of};
-ghost use Rattle.bpf_run.specs.Spreading.{AreMade, AreRead, IsSpread, IsSpreadOf, IsStop, ReadsAt, host_in, part_name};
+ghost use Rattle.bpf_run.specs.Spreading.{AreAllRead, AreMade, AreRead, IsSpread, IsSpreadOf, IsStop, ReadsAt, host_in, origins_name, part_name};
 
 use bpf_codes::Code;
 use bpf_command::SpreadOptions;
-use bpf_expand::{Called, Expander, Parted, open, parts_of, states_in};
+use bpf_expand::{Called, Expander, Given, Parted, open, parts_of, states_in};
 use bpf_file::RunFile;
 use bpf_names::Names;
 use bpf_replies::input::{InputError, MAX_INPUT, read_whole};
@@ -155,8 +155,9 @@ fn put_states(read: &mut Read, states: Vec<Vec<u8>>) -> Result<(), AllocError>
 
 /// The states of files of these names, one file after the other.
 fn read_files<R: Source>(alloc: Global, names: &[String], source: &mut R) -> Result<Read, Stop>
-    ensures { IfOk result (λ read. AreRead (R.file source.old)
+    ensures read { IfOk result (λ read. AreRead (R.file source.old)
         (map string_bytes names.now) (length names.now) (map (λ v. v.items) read.states.items)) }
+    ensures files { R.file source.new ≡ R.file source.old }
 {
     let mut read = Read {
         states: Vec::new(alloc),
@@ -191,9 +192,10 @@ fn read_states<R: Source>(
     names: &[String],
     source: &mut R,
 ) -> Result<Read, Stop>
-    ensures { IfOk result (λ read. ReadsAt expander.now.host expander.now.machine
+    ensures read { IfOk result (λ read. ReadsAt expander.now.host expander.now.machine
         (R.file source.old) (map string_bytes names.now)
         (map (λ v. v.items) read.states.items)) }
+    ensures files { R.file source.new ≡ R.file source.old }
 {
     if !names.is_empty() {
         return read_files(alloc, names, source);
@@ -214,8 +216,8 @@ fn place_of(before: &[usize], number: usize) -> (usize, usize) {
 }
 
 /// That what has this number among what was read is no state.
-fn no_state(alloc: Global, names: &[String], read: &Read, number: usize) -> Stop {
-    let (file, number) = place_of(&read.before, number);
+fn no_state(alloc: Global, names: &[String], before: &[usize], number: usize) -> Stop {
+    let (file, number) = place_of(before, number);
     match names.get(file) {
         Some(name) => state_stop(alloc, name.as_str(), number),
         None => Stop::Refused(Refusal::OutOfMemory),
@@ -229,16 +231,48 @@ fn part_name(alloc: Global, folder: &str, part: usize) -> Result<String, AllocEr
     format!(in alloc; "{folder}/{part}")
 }
 
+/// The name of the file of its states' origins.
+fn origins_name(alloc: Global, folder: &str, part: usize) -> Result<String, AllocError>
+    ensures { IfOk result (λ name. string_bytes name ≡ origins_name folder.now part) }
+{
+    format!(in alloc; "{folder}/{part}.from")
+}
+
+/// Writes a file of this name.
+fn write_file<T: Shelf>(rt: &T, name: String, bytes: &[u8]) -> Result<(), Stop>
+    ensures { OnOk result (T.has_made rt.now (string_bytes name) bytes.now) }
+{
+    if rt.make(name.as_str(), bytes).is_err() {
+        return Err(Stop::File(name, Refusal::Input(InputError::Unread)));
+    }
+    Ok(())
+}
+
 /// Writes each part into a file of its own.
 fn write_parts<T: Shelf>(rt: &T, alloc: Global, folder: &str, parts: &[Vec<u8>]) -> Result<(), Stop>
-    ensures { OnOk result (AreMade (T.has_made rt.now) folder.now
+    ensures { OnOk result (AreMade (T.has_made rt.now) (part_name folder.now)
         (map (λ v. v.items) parts.now)) }
 {
     for part in 0..parts.len() {
         let name = part_name(alloc, folder, part)?;
-        if rt.make(name.as_str(), &parts[part]).is_err() {
-            return Err(Stop::File(name, Refusal::Input(InputError::Unread)));
-        }
+        write_file(rt, name, &parts[part])?;
+    }
+    Ok(())
+}
+
+/// Writes the origins of each part's states into a file of their own.
+fn write_origins<T: Shelf>(
+    rt: &T,
+    alloc: Global,
+    folder: &str,
+    parts: &[Vec<u8>],
+) -> Result<(), Stop>
+    ensures { OnOk result (AreMade (T.has_made rt.now) (origins_name folder.now)
+        (map (λ v. v.items) parts.now)) }
+{
+    for part in 0..parts.len() {
+        let name = origins_name(alloc, folder, part)?;
+        write_file(rt, name, &parts[part])?;
     }
     Ok(())
 }
@@ -254,19 +288,21 @@ fn parts_in<R: Source>(
     ensures parted { IfOk result (λ made. (read : List (List ℕ))
         × ReadsAt expander.old.host expander.old.machine (R.file source.old)
         (map string_bytes spread.now.states.items) read
-        × IsParted expander.new.host (names_of names.now) spread.now.parts read made) }
+        × (seen : List (List ℕ))
+        × AreAllRead (R.file source.old) (map string_bytes spread.now.seen.items) seen
+        × IsParted expander.new.host (names_of names.now) spread.now.parts read seen made) }
     ensures same { expander.new.host ≡ expander.old.host }
 {
-    let read = read_states(alloc, expander, &spread.states, source)?;
-    match parts_of(
-        alloc,
-        expander,
-        names,
-        &read.states,
-        usize::from(spread.parts),
-    )? {
+    let Read { states, before } = read_states(alloc, expander, &spread.states, source)?;
+    let known = read_files(alloc, &spread.seen, source)?;
+    let given = Given {
+        read: states,
+        seen: known.states,
+    };
+    let parts = usize::from(spread.parts);
+    match parts_of(alloc, expander, names, &given, parts)? {
         Called::Parted(made) => Ok(made),
-        Called::NoState(number) => Err(no_state(alloc, &spread.states, &read, number)),
+        Called::NoState(number) => Err(no_state(alloc, &spread.states, &before, number)),
     }
 }
 
@@ -306,6 +342,7 @@ fn spread_text<T: Shelf, R: Source>(
     let mut opened = open_file(alloc, spread.patient, file)?;
     let made = parts_in(alloc, spread, &mut opened.expander, &opened.names, source)?;
     write_parts(rt, alloc, spread.folder.as_str(), &made.parts)?;
+    write_origins(rt, alloc, spread.folder.as_str(), &made.origins)?;
     Ok(made.text)
 }
 

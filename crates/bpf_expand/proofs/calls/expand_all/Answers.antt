@@ -3,6 +3,7 @@ use Rattle.std.proofs.lemmas.List.Sums.{fold-append}
 use Rattle.std.proofs.lemmas.Option.{slice_get-get_or, slice_get-map}
 use Rattle.bpf_names.specs.Names.{names_of}
 use Rattle.bpf_expand.specs.Parts.{AreFound, put, put_all}
+use Rattle.bpf_expand.specs.Private.Traced.{AreTraced}
 use Rattle.bpf_expand.specs.State.{Host}
 use Rattle.bpf_expand.proofs.Calling.{found_more}
 use Rattle.bpf_expand.proofs.calls.expand_all.Goals as goal
@@ -34,4 +35,9 @@ loop-number-preserved c =
         more.3 ∙ (ap (λ (l : List (List ℕ)). put_all l more.0) was.3 ∙ sym (fold-append put c.args.found.now.known was.0 more.0)),
         more.4 ∙ (ap (λ (l : List (List ℕ)). put_all l more.1) was.4 ∙ sym (fold-append put c.args.found.now.ends was.1 more.1)),
       );
+      traced = λ first start.
+          c.in_ok-expand.ensures.traced c.if-not-branch.false all first at
+          (subst (λ (x : Host). AreTraced x names all first c.loop-number.found) (sym c.expand.ensures.same)
+          (c.loop-number.invariant.traced first
+          (subst (λ (x : Host). AreTraced x names all first c.args.found.now) c.expand.ensures.same start)));
     }
