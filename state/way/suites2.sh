@@ -1,0 +1,2 @@
+#!/bin/bash
+cd /work/w; for s in "tests/run" "tests/json" "tests/memory" "tests/check" "tests/completions" "tests/docs" "tests/campaign" "tests/explore-far" "tests/expand" "tests/hostile" "tests/streams" "tests/from-elf" "tests/from-pcap" "tests/programs/compare" "tests/selftests" "tests/dap" "tests/debug"; do echo "== $s $(date +%T)"; (time $s $1) 2>&1 | tail -9 | cut -c1-300; done; echo "== end $(date +%T)"
